@@ -1,0 +1,103 @@
+//! Document 01's refusal numbers and codes for the original's errors, and an answer as the lists
+//! write it.
+
+use crate::answer_bits;
+use crate::original_fixed::AeroError;
+
+/// Document 01's code for each of the Rust's `what` texts, 1 to 22 in its order.
+pub const CODES: [&str; 22] = [
+    "Mach number",
+    "fineness ratio",
+    "joint angle",
+    "power series exponent",
+    "parabolic series parameter",
+    "Haack series parameter",
+    "ellipsoid fineness ratio",
+    "Mach number below 0.8 for an ellipsoid's measured pressure drag",
+    "ogive κ (tangent-ogive radius over arc radius)",
+    "fineness-3 pressure drag",
+    "blunt-cylinder pressure drag",
+    "transonic lower bound",
+    "pressure drag at rest",
+    "pressure drag at the lower bound",
+    "pressure drag slope at the lower bound",
+    "Mach number below the transonic lower bound",
+    "Reynolds number",
+    "relative roughness",
+    "body fineness ratio",
+    "boattail length",
+    "boattail aft diameter",
+    "boattail fore diameter",
+];
+
+/// The code of a `what`.
+pub fn code(what: &str) -> u8 {
+    let place = CODES.iter().position(|known| *known == what);
+    place.unwrap_or_else(|| panic!("document 01 has no code for `{what}`")) as u8 + 1
+}
+
+/// An answer as the lists write it: refusal number (0 accepted), code (0 none), and the bits of
+/// the value, or of the value refused (0 where refusal 2 and 3 carry none).
+#[derive(Debug, Clone, Copy, PartialEq, Eq)]
+pub struct Answer {
+    pub refusal: u8,
+    pub code: u8,
+    pub bits: u64,
+}
+
+impl Answer {
+    /// Accepted, with these bits.
+    pub fn accepted(bits: u64) -> Self {
+        Self {
+            refusal: 0,
+            code: 0,
+            bits,
+        }
+    }
+
+    /// Accepted, with this number.
+    pub fn value(x: f64) -> Self {
+        Self::accepted(answer_bits(x))
+    }
+
+    /// A number or the original's error. `Unsupported` is refusal 2 for an ogive and 3 for a Haack
+    /// series, which its text tells apart.
+    pub fn of(result: Result<f64, AeroError>) -> Self {
+        match result {
+            Ok(x) => Self::value(x),
+            Err(AeroError::Domain { what, value }) => Self {
+                refusal: 1,
+                code: code(what),
+                bits: answer_bits(value),
+            },
+            Err(AeroError::Unsupported(text)) => {
+                let refusal = if text.starts_with("an ogive of radius ratio") {
+                    2
+                } else if text.starts_with("a Haack series nose") {
+                    3
+                } else {
+                    panic!("document 01 has no number for `{text}`")
+                };
+                Self {
+                    refusal,
+                    code: 0,
+                    bits: 0,
+                }
+            }
+        }
+    }
+
+    /// The answer of a test, which carries no value when it passes.
+    pub fn of_check(result: Result<(), AeroError>) -> Self {
+        match result {
+            Ok(()) => Self::accepted(0),
+            Err(error) => Self::of(Err(error)),
+        }
+    }
+}
+
+impl std::fmt::Display for Answer {
+    fn fmt(&self, f: &mut std::fmt::Formatter<'_>) -> std::fmt::Result {
+        write!(f, "{:02} {:02} {:016x}", self.refusal, self.code, self.bits)
+    }
+}

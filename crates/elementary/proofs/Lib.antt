@@ -1,0 +1,7 @@
+-- The laws that the functions' proofs share.
+pub mod Floats
+pub mod Bits
+pub mod Root
+pub mod Powers
+pub mod Value
+pub mod Sizes

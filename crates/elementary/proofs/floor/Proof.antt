@@ -1,0 +1,67 @@
+-- `elementary::floor` meets its contract.
+use mathlib.Core.Path.{_≡_, sym, ap, _∙_}
+use lib.Dec.{T}
+use lib.Ieee.{binary64, fits}
+use Rattle.elementary.specs.Split.{floorOf}
+use Rattle.elementary.proofs.Floats.{true-T}
+use Rattle.elementary.proofs.Bits.{taken}
+use Rattle.elementary.proofs.Value.{floorParts, floor-is, few}
+use borrow.Author.Needs.{needs}
+use Rattle.elementary.proofs.floor.Statement.{statement}
+use Rattle.elementary.proofs.floor.Tie as tie
+
+fits-at : (c : tie.After-split) → T (fits binary64 (c .before .args .x))
+fits-at c = true-T (c .before .good .0 .1)
+
+-- the floor, by the parts that `split` gave
+by-parts : (c : tie.After-split) → floorOf (c .before .args .x) ≡ floorParts (c .split .result)
+by-parts c = floor-is (c .before .args .x) (fits-at c) (c .before .pre) ∙ ap floorParts (sym (c .split .ensures))
+
+split-requires : tie.Need-split-requires
+split-requires c κs = search needs
+
+enum-told : tie.Need-enum-told
+enum-told c = search needs
+
+enum-told-2 : tie.Need-enum-told-2
+enum-told-2 c = search needs
+
+enum-known-parts : tie.Need-enum-known-parts
+enum-known-parts c = search needs
+
+enum-known-parts-2 : tie.Need-enum-known-parts-2
+enum-known-parts-2 c = search needs
+
+floor-size-requires : tie.Need-floor-size-requires
+floor-size-requires c κs =
+    let s = c .before .before .before in
+    let x = s .before .args .x in
+    let e = sym (s .split .ensures) ∙ c .before .parts2 .given .1 in
+    (taken x (fits-at s) e, few x (fits-at s) e (s .before .pre))
+
+returns : tie.Need-returns
+returns c = rw (by-parts (c .before .before), c .enum-told .given .1)
+
+returns-2 : tie.Need-returns-2
+returns-2 c = rw (by-parts (c .before .before), c .enum-told2 .given .1)
+
+returns-3 : tie.Need-returns-3
+returns-3 c = rw (by-parts (c .before .before .before), c .before .parts .given .1)
+
+returns-4 : tie.Need-returns-4
+returns-4 c = rw (by-parts (c .before .before .before .before), c .before .before .parts2 .given .1, ← c .floor-size .ensures)
+
+pub floor-spec : {M : Type 1} → statement M
+floor-spec =
+    tie.close
+    (tie.spec
+    split-requires
+    enum-told
+    enum-told-2
+    enum-known-parts
+    enum-known-parts-2
+    floor-size-requires
+    returns
+    returns-2
+    returns-3
+    returns-4)
