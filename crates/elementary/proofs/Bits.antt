@@ -92,7 +92,7 @@ held s m e t =
       finite = ltb→lt (suc m * up e) (2 ^ 1024 * down e) (and-r (a && b && c) (ltb (suc m * up e) (2 ^ 1024 * down e)) t);
     }
 
-exponent-le : (k l : ℕ) → 2 ^ k ≤ 2 ^ l → k ≤ l
+pub exponent-le : (k l : ℕ) → 2 ^ k ≤ 2 ^ l → k ≤ l
 exponent-le k l h = le-of-suc-le-suc (lt-of-not-le (λ (g : suc l ≤ k). not-le-of-lt (pow-lt g) h))
 
 shape : (l m : ℕ) (e : ℤ) → down e ≤ 2 ^ l → (j : ℕ) × (m * up e * 2 ^ l ≡ m * 2 ^ j * down e)
@@ -191,7 +191,7 @@ split-bits (fin s (suc m) e) h k = let u = in-units m e (held s m e h) in rw (to
 
 -- ---- what is known of the parts of a finite number
 
-taken-units : (n : ℕ) → 0 < n → n < 2 ^ 2098 → Taken (normalised n (size n)) (size n)
+pub taken-units : (n : ℕ) → 0 < n → n < 2 ^ 2098 → Taken (normalised n (size n)) (size n)
 taken-units n p h =
     let d = size n in
     let nz : (d ≡ 0 → ⊥) = λ (z : d ≡ 0). lt-irrefl 0 (subst (λ (a : ℕ). 0 < a) (lt-one (subst (λ (k : ℕ). n < 2 ^ k) z (size-lt n))) p) in

@@ -5,3 +5,4 @@ pub mod Root
 pub mod Powers
 pub mod Value
 pub mod Sizes
+pub mod Nearest

@@ -20,7 +20,7 @@ use Rattle.elementary.specs.Split.{units, normalised, splitOf, floorSize
 use Rattle.elementary.proofs.Bits.{Held, held, Units, in-units}
 
 -- bringing n to 53 digits loses nothing
-normal-exact : (m : ℕ) (e : ℤ) → Held (suc m) e → let n = units (suc m) e in normalised n (size n) * 2 ^ size n ≡ n * 2 ^ 53
+pub normal-exact : (m : ℕ) (e : ℤ) → Held (suc m) e → let n = units (suc m) e in normalised n (size n) * 2 ^ size n ≡ n * 2 ^ 53
 normal-exact m e h =
     let u = in-units m e h in
     let n = units (suc m) e in

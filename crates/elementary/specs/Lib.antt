@@ -4,3 +4,4 @@ pub mod Constants
 pub mod Split
 pub mod Root
 pub mod Steps
+pub mod Nearest

@@ -1,0 +1,36 @@
+-- A range test, then refusal 1 with a code and the value (error.rs), and how a formula goes on after a test or after another formula: Rust's `?`.
+use mathlib.Core.Bool.{Bool, true, false, _&&_, _||_}
+use lib.Ieee.{Float}
+use lib.Ieee.Scale.{finite}
+use Rattle.elementary.specs.Arithmetic.{_≺_, _≼_, _≈_, bits}
+use Rattle.aero_error.specs.declared.Quantity.{Quantity}
+use Rattle.aero_error.specs.declared.AeroError.{AeroError}
+use Rattle.aero_error.specs.declared.AeroError.the-variants.{Domain}
+use Rattle.aero_error.specs.declared.Check.{Check}
+use Rattle.aero_error.specs.declared.Check.the-variants.{Passed, Failed}
+use Rattle.aero_error.specs.declared.Coefficient.{Coefficient}
+use Rattle.aero_error.specs.declared.Coefficient.the-variants.{Value, Refused}
+
+infixr 20 _and-then_ _for-value_
+-- the one form of a range test: it passes, or it is refusal 1 with what was tested
+abbrev pub required : Bool → Quantity → Float → Check
+required true what value = Passed
+required false what value = Failed (Domain what value)
+
+-- "Zero of either sign passes where zero is allowed": `≈` does not tell -0 from +0.
+unfoldable pub dimension : Float → Bool → Bool
+dimension value allow-zero = finite value && (bits 0 ≺ value || (allow-zero && value ≈ bits 0))
+
+-- `(low..=high).contains(&x)`
+unfoldable pub between : Float → Float → Float → Bool
+between low x high = low ≼ x && x ≼ high
+
+-- `check?; answer`
+abbrev pub _and-then_ : Check → Coefficient → Coefficient
+Passed and-then answer = answer
+Failed refusal and-then answer = Refused refusal
+
+-- `let value = first?; rest(value)`
+abbrev pub _for-value_ : Coefficient → (Float → Coefficient) → Coefficient
+Value value for-value rest = rest value
+Refused refusal for-value rest = Refused refusal

@@ -1,0 +1,188 @@
+// The refusals of every layer, with document 01's numbers for them, and the tests that give refusal 1 (error.rs). A test answers
+// `Check`, a formula `Coefficient`; both carry the refusal itself, so that a caller hands it on unread.
+ghost use mathlib.Core.Path.{_≡_};
+ghost use lib.Ieee.Scale.{finite};
+ghost use Rattle.aero_error.specs.Refusals.{codeOfQuantity, numberOf, codeOf, valueOf};
+ghost use Rattle.aero_error.specs.Checks.{required, dimension, between};
+
+// What a refused value is: the Rust's `what`, in the order of document 01's codes 1 to 22.
+pub enum Quantity {
+    Mach,
+    Fineness,
+    JointAngle,
+    PowerExponent,
+    ParabolicParameter,
+    HaackParameter,
+    EllipsoidFineness,
+    EllipsoidMach,
+    OgiveKappa,
+    FinenessThreeDrag,
+    BluntDrag,
+    TransonicLowerBound,
+    DragAtRest,
+    DragAtLowerBound,
+    SlopeAtLowerBound,
+    MachBelowLowerBound,
+    Reynolds,
+    Roughness,
+    BodyFineness,
+    BoattailLength,
+    BoattailAft,
+    BoattailFore,
+}
+
+// A refusal: a case for each row of document 01's table, in the order of its numbers 1 to 11.
+pub enum AeroError {
+    Domain { what: Quantity, value: f64 },
+    OgiveRadiusRatio,
+    HaackAboveThird,
+    CardEnds,
+    ReservedBit,
+    FieldMissing,
+    TooManyColumns,
+    NoSuchPlace,
+    DesignFull,
+    TooFewCells,
+    OutsideInterval,
+}
+
+// The answer of a test.
+pub enum Check {
+    Passed,
+    Failed(AeroError),
+}
+
+// The answer of a formula.
+pub enum Coefficient {
+    Value(f64),
+    Refused(AeroError),
+}
+
+impl Quantity {
+    // Document 01's code, 1 to 22.
+    pub fn code(self) -> u8
+        ensures { λ r. ⌜ r ≡ codeOfQuantity self ⌝ }
+    {
+        match self {
+            Quantity::Mach => 1,
+            Quantity::Fineness => 2,
+            Quantity::JointAngle => 3,
+            Quantity::PowerExponent => 4,
+            Quantity::ParabolicParameter => 5,
+            Quantity::HaackParameter => 6,
+            Quantity::EllipsoidFineness => 7,
+            Quantity::EllipsoidMach => 8,
+            Quantity::OgiveKappa => 9,
+            Quantity::FinenessThreeDrag => 10,
+            Quantity::BluntDrag => 11,
+            Quantity::TransonicLowerBound => 12,
+            Quantity::DragAtRest => 13,
+            Quantity::DragAtLowerBound => 14,
+            Quantity::SlopeAtLowerBound => 15,
+            Quantity::MachBelowLowerBound => 16,
+            Quantity::Reynolds => 17,
+            Quantity::Roughness => 18,
+            Quantity::BodyFineness => 19,
+            Quantity::BoattailLength => 20,
+            Quantity::BoattailAft => 21,
+            Quantity::BoattailFore => 22,
+        }
+    }
+}
+
+impl AeroError {
+    // The refusal's number, 1 to 11.
+    pub fn number(self) -> u8
+        ensures { λ r. ⌜ r ≡ numberOf self ⌝ }
+    {
+        match self {
+            AeroError::Domain { what: _, value: _ } => 1,
+            AeroError::OgiveRadiusRatio => 2,
+            AeroError::HaackAboveThird => 3,
+            AeroError::CardEnds => 4,
+            AeroError::ReservedBit => 5,
+            AeroError::FieldMissing => 6,
+            AeroError::TooManyColumns => 7,
+            AeroError::NoSuchPlace => 8,
+            AeroError::DesignFull => 9,
+            AeroError::TooFewCells => 10,
+            AeroError::OutsideInterval => 11,
+        }
+    }
+
+    // The code that refusal 1 adds, and 0 with any other.
+    pub fn code(self) -> u8
+        ensures { λ r. ⌜ r ≡ codeOf self ⌝ }
+    {
+        match self {
+            AeroError::Domain { what, value: _ } => what.code(),
+            AeroError::OgiveRadiusRatio => 0,
+            AeroError::HaackAboveThird => 0,
+            AeroError::CardEnds => 0,
+            AeroError::ReservedBit => 0,
+            AeroError::FieldMissing => 0,
+            AeroError::TooManyColumns => 0,
+            AeroError::NoSuchPlace => 0,
+            AeroError::DesignFull => 0,
+            AeroError::TooFewCells => 0,
+            AeroError::OutsideInterval => 0,
+        }
+    }
+
+    // The value that refusal 1 adds, and +0 with any other.
+    pub fn value(self) -> f64
+        ensures { λ r. ⌜ r ≡ valueOf self ⌝ }
+    {
+        match self {
+            AeroError::Domain { what: _, value } => value,
+            AeroError::OgiveRadiusRatio => 0.0,
+            AeroError::HaackAboveThird => 0.0,
+            AeroError::CardEnds => 0.0,
+            AeroError::ReservedBit => 0.0,
+            AeroError::FieldMissing => 0.0,
+            AeroError::TooManyColumns => 0.0,
+            AeroError::NoSuchPlace => 0.0,
+            AeroError::DesignFull => 0.0,
+            AeroError::TooFewCells => 0.0,
+            AeroError::OutsideInterval => 0.0,
+        }
+    }
+}
+
+// Neither a NaN nor an infinity: only those give a NaN when they are taken from themselves.
+pub fn is_finite(x: f64) -> bool
+    ensures { λ r. ⌜ r ≡ finite x ⌝ }
+{
+    x - x == 0.0
+}
+
+// From low to high, both ends included; false at a NaN.
+pub fn is_between(low: f64, x: f64, high: f64) -> bool
+    ensures { λ r. ⌜ r ≡ between low x high ⌝ }
+{
+    low <= x && x <= high
+}
+
+// A test, then refusal 1 with this quantity and value.
+pub fn require(ok: bool, what: Quantity, value: f64) -> Check
+    ensures { λ r. ⌜ r ≡ required ok what value ⌝ }
+{
+    if ok {
+        Check::Passed
+    } else {
+        Check::Failed(AeroError::Domain { what, value })
+    }
+}
+
+// Finite and positive, or zero of either sign where zero is allowed.
+fn is_dimension(value: f64, allow_zero: bool) -> bool
+    ensures { λ r. ⌜ r ≡ dimension value «allow_zero» ⌝ }
+{
+    is_finite(value) && (value > 0.0 || (allow_zero && value == 0.0))
+}
+
+pub fn check_dimension(what: Quantity, value: f64, allow_zero: bool) -> Check
+    ensures { λ r. ⌜ r ≡ required (dimension value «allow_zero») what value ⌝ }
+{
+    require(is_dimension(value, allow_zero), what, value)
+}

@@ -1,0 +1,236 @@
+// Skin friction, stagnation pressure, base drag, joint drag and the boattail rule (drag.rs): the terms of Niskanen's drag buildup
+// as functions of their inputs, with the Rust's names, order of tests and order of operations. Each answers the value or the refusal.
+ghost use mathlib.Core.Path.{_≡_};
+ghost use Rattle.drag.specs.Friction.{machChecked, turbulentFriction, criticalReynolds, roughnessLimited, incompressibleSkinFriction, maxOf, skinFrictionCoefficient, bodyFrictionFormFactor};
+ghost use Rattle.drag.specs.Pressure.{stagnationRatio, stagnationPressureRatio, stagnationDragCoefficient, baseDragCoefficient, jointPressureDragCoefficient, boattailShare, boattailFactor};
+use aero_error::AeroError;
+use aero_error::Check;
+use aero_error::Coefficient;
+use aero_error::Quantity;
+use aero_error::check_dimension;
+use aero_error::is_between;
+use aero_error::is_finite;
+use aero_error::require;
+
+// Reynolds number below which the friction formulas no longer hold (Niskanen 2009 p. 44).
+pub const LOW_REYNOLDS: f64 = 1.0e4;
+
+// The skin-friction coefficient below LOW_REYNOLDS (eq. 3.81).
+pub const LOW_REYNOLDS_FRICTION: f64 = 1.48e-2;
+
+// The top of the subsonic region, where the transonic method starts (Table 3.1, p. 47).
+pub const SUBSONIC_MACH_LIMIT: f64 = 0.8;
+
+// A quarter turn, the bits 3ff921fb54442d18 of document 01.
+pub const FRAC_PI_2: f64 = 1.57079632679489661923132169163975144;
+
+// Whether eq. 3.81 takes the roughness-limited branch, or the refusal of the roughness that it had to look at.
+enum Limited {
+    Is(bool),
+    Refused(AeroError),
+}
+
+// A Mach number of any speed regime: finite and not negative.
+pub fn check_mach_any(mach: f64) -> Check
+    ensures { λ r. ⌜ r ≡ machChecked mach ⌝ }
+{
+    let ok = is_finite(mach) && mach >= 0.0;
+    require(ok, Quantity::Mach, mach)
+}
+
+// Smooth fully turbulent friction (eq. 3.78), held below LOW_REYNOLDS (eq. 3.81).
+fn turbulent_friction(reynolds: f64) -> f64
+    ensures { λ r. ⌜ r ≡ turbulentFriction reynolds ⌝ }
+{
+    if reynolds < LOW_REYNOLDS {
+        LOW_REYNOLDS_FRICTION
+    } else {
+        let d = 1.50 * elementary::ln(reynolds) - 5.6;
+        1.0 / (d * d)
+    }
+}
+
+// The roughness-limited critical Reynolds number (eq. 3.79), +infinity for roughness 0.
+pub fn critical_reynolds(relative_roughness: f64) -> Coefficient
+    ensures { λ r. ⌜ r ≡ criticalReynolds «relative_roughness» ⌝ }
+{
+    if let Check::Failed(refusal) = check_dimension(Quantity::Roughness, relative_roughness, true) {
+        return Coefficient::Refused(refusal);
+    }
+    Coefficient::Value(51.0 * elementary::powf(relative_roughness, -1.039))
+}
+
+// Never below LOW_REYNOLDS, where the roughness isn't looked at; from there on, from the critical Reynolds number up.
+fn roughness_limited(reynolds: f64, relative_roughness: f64) -> Limited
+    ensures { λ r. ⌜ r ≡ roughnessLimited reynolds «relative_roughness» ⌝ }
+{
+    if reynolds >= LOW_REYNOLDS {
+        match critical_reynolds(relative_roughness) {
+            Coefficient::Refused(refusal) => Limited::Refused(refusal),
+            Coefficient::Value(critical) => Limited::Is(reynolds >= critical),
+        }
+    } else {
+        Limited::Is(false)
+    }
+}
+
+// Incompressible skin friction of a fully turbulent boundary layer (eq. 3.81).
+pub fn incompressible_skin_friction(reynolds: f64, relative_roughness: f64) -> Coefficient
+    ensures { λ r. ⌜ r ≡ incompressibleSkinFriction reynolds «relative_roughness» ⌝ }
+{
+    if let Check::Failed(refusal) = check_dimension(Quantity::Reynolds, reynolds, true) {
+        return Coefficient::Refused(refusal);
+    }
+    match roughness_limited(reynolds, relative_roughness) {
+        Limited::Refused(refusal) => Coefficient::Refused(refusal),
+        Limited::Is(limited) => {
+            if limited {
+                Coefficient::Value(0.032 * elementary::powf(relative_roughness, 0.2))
+            } else {
+                Coefficient::Value(turbulent_friction(reynolds))
+            }
+        }
+    }
+}
+
+// Rust's f64::max: the other one where one is a NaN. Of two zeros of unlike sign Rust leaves open which it is; here it is the first.
+pub fn max(a: f64, b: f64) -> f64
+    ensures { λ r. ⌜ r ≡ maxOf a b ⌝ }
+{
+    if a < b {
+        b
+    } else if a != a {
+        b
+    } else {
+        a
+    }
+}
+
+// Skin friction with compressibility (eq. 3.82 to 3.84).
+pub fn skin_friction_coefficient(reynolds: f64, relative_roughness: f64, mach: f64) -> Coefficient
+    ensures { λ r. ⌜ r ≡ skinFrictionCoefficient reynolds «relative_roughness» mach ⌝ }
+{
+    if let Check::Failed(refusal) = check_mach_any(mach) {
+        return Coefficient::Refused(refusal);
+    }
+    let answer = incompressible_skin_friction(reynolds, relative_roughness);
+    let Coefficient::Value(cf) = answer else {
+        return answer;
+    };
+    let m2 = mach * mach;
+    if mach < 1.0 {
+        return Coefficient::Value(cf * (1.0 - 0.1 * m2));
+    }
+    let turbulent = turbulent_friction(reynolds) / elementary::powf(1.0 + 0.15 * m2, 0.58);
+    match roughness_limited(reynolds, relative_roughness) {
+        Limited::Refused(refusal) => Coefficient::Refused(refusal),
+        Limited::Is(limited) => {
+            if limited {
+                Coefficient::Value(max(cf / (1.0 + 0.18 * m2), turbulent))
+            } else {
+                Coefficient::Value(turbulent)
+            }
+        }
+    }
+}
+
+// Body friction form factor 1 + 1/(2 f_B) (eq. 3.85).
+pub fn body_friction_form_factor(fineness_ratio: f64) -> Coefficient
+    ensures { λ r. ⌜ r ≡ bodyFrictionFormFactor «fineness_ratio» ⌝ }
+{
+    if let Check::Failed(refusal) = check_dimension(Quantity::BodyFineness, fineness_ratio, false) {
+        return Coefficient::Refused(refusal);
+    }
+    Coefficient::Value(1.0 + 0.5 / fineness_ratio)
+}
+
+// Stagnation-pressure ratio q_stag/q (eq. B.1).
+pub fn stagnation_pressure_ratio(mach: f64) -> Coefficient
+    ensures { λ r. ⌜ r ≡ stagnationPressureRatio mach ⌝ }
+{
+    if let Check::Failed(refusal) = check_mach_any(mach) {
+        return Coefficient::Refused(refusal);
+    }
+    Coefficient::Value(stagnation_ratio(mach))
+}
+
+// The same at a Mach number already checked.
+pub fn stagnation_ratio(mach: f64) -> f64
+    ensures { λ r. ⌜ r ≡ stagnationRatio mach ⌝ }
+{
+    let m2 = mach * mach;
+    if mach < 1.0 {
+        1.0 + 0.25 * m2 + m2 * m2 / 40.0
+    } else {
+        let i2 = 1.0 / m2;
+        1.84 - 0.76 * i2 + 0.166 * i2 * i2 + 0.035 * i2 * i2 * i2
+    }
+}
+
+// Pressure drag of a blunt cylinder's face (eq. B.2).
+pub fn stagnation_drag_coefficient(mach: f64) -> Coefficient
+    ensures { λ r. ⌜ r ≡ stagnationDragCoefficient mach ⌝ }
+{
+    let answer = stagnation_pressure_ratio(mach);
+    let Coefficient::Value(ratio) = answer else {
+        return answer;
+    };
+    Coefficient::Value(0.85 * ratio)
+}
+
+// Base drag on the base area (eq. 3.94).
+pub fn base_drag_coefficient(mach: f64) -> Coefficient
+    ensures { λ r. ⌜ r ≡ baseDragCoefficient mach ⌝ }
+{
+    if let Check::Failed(refusal) = check_mach_any(mach) {
+        return Coefficient::Refused(refusal);
+    }
+    if mach < 1.0 {
+        Coefficient::Value(0.12 + 0.13 * mach * mach)
+    } else {
+        Coefficient::Value(0.25 / mach)
+    }
+}
+
+// Pressure drag at rest of a nose or shoulder, 0.8 sin² φ (eq. 3.86), for a joint angle in [0, π/2].
+pub fn joint_pressure_drag_coefficient(joint_angle_rad: f64) -> Coefficient
+    ensures { λ r. ⌜ r ≡ jointPressureDragCoefficient «joint_angle_rad» ⌝ }
+{
+    let ok = is_between(0.0, joint_angle_rad, FRAC_PI_2);
+    if let Check::Failed(refusal) = require(ok, Quantity::JointAngle, joint_angle_rad) {
+        return Coefficient::Refused(refusal);
+    }
+    let s = elementary::sin(joint_angle_rad);
+    Coefficient::Value(0.8 * s * s)
+}
+
+// The boattail rule's share of base drag by the length ratio (eq. 3.88).
+fn boattail_share(gamma: f64) -> f64
+    ensures { λ r. ⌜ r ≡ boattailShare gamma ⌝ }
+{
+    if gamma <= 1.0 {
+        1.0
+    } else if gamma < 3.0 {
+        0.5 * (3.0 - gamma)
+    } else {
+        0.0
+    }
+}
+
+// The boattail rule of a length and two diameters that must narrow.
+pub fn boattail_factor(length_m: f64, fore_diameter_m: f64, aft_diameter_m: f64) -> Coefficient
+    ensures { λ r. ⌜ r ≡ boattailFactor «length_m» «fore_diameter_m» «aft_diameter_m» ⌝ }
+{
+    if let Check::Failed(refusal) = check_dimension(Quantity::BoattailLength, length_m, true) {
+        return Coefficient::Refused(refusal);
+    }
+    if let Check::Failed(refusal) = check_dimension(Quantity::BoattailAft, aft_diameter_m, true) {
+        return Coefficient::Refused(refusal);
+    }
+    let ok = is_finite(fore_diameter_m) && fore_diameter_m > aft_diameter_m;
+    if let Check::Failed(refusal) = require(ok, Quantity::BoattailFore, fore_diameter_m) {
+        return Coefficient::Refused(refusal);
+    }
+    let gamma = length_m / (fore_diameter_m - aft_diameter_m);
+    Coefficient::Value(boattail_share(gamma))
+}

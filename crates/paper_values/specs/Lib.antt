@@ -1,0 +1,2 @@
+-- The values of document 01 that are theorems.
+pub mod Values

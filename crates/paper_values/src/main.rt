@@ -1,0 +1,43 @@
+// Checks document 01's unstarred values by running: a line for each, compared with the file stdout. The starred ones are a theorem, in specs/.
+use aero_error::Coefficient;
+use drag::joint_pressure_drag_coefficient;
+use libc::STDOUT_FILENO;
+
+// A number below 100 in one or two digits.
+fn write_number(n: u8) {
+    let tens = n / 10 % 10;
+    if 0 < tens {
+        io::write_all(STDOUT_FILENO, &[b'0' + tens]);
+    }
+    io::write_all(STDOUT_FILENO, &[b'0' + n % 10]);
+}
+
+// What was asked, and whether a value or which refusal came.
+fn write_line(asked: &[u8], answer: Coefficient) {
+    io::write_all(STDOUT_FILENO, asked);
+    match answer {
+        Coefficient::Value(_) => {
+            io::write_all(STDOUT_FILENO, b" passes\n");
+        }
+        Coefficient::Refused(refusal) => {
+            io::write_all(STDOUT_FILENO, b" refused ");
+            write_number(refusal.number());
+            io::write_all(STDOUT_FILENO, b" code ");
+            write_number(refusal.code());
+            io::write_all(STDOUT_FILENO, b"\n");
+        }
+    }
+}
+
+fn main() {
+    let quarter = f64::from_bits(0x3ff921fb54442d18);
+    let above = f64::from_bits(0x3ff921fb54442d19);
+    write_line(
+        b"joint angle 3ff921fb54442d18",
+        joint_pressure_drag_coefficient(quarter),
+    );
+    write_line(
+        b"joint angle 3ff921fb54442d19",
+        joint_pressure_drag_coefficient(above),
+    );
+}

@@ -1,0 +1,2 @@
+-- What the contract of shapes cites.
+pub mod Numbers
