@@ -1,0 +1,2 @@
+-- When a stored line of the elementary functions agrees.
+pub mod Lines
