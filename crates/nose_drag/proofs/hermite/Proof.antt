@@ -1,0 +1,13 @@
+-- `hermite` meets its contract: the same operations in the same order.
+-- Assumes nothing.
+use mathlib.Core.Path.{refl}
+use Rattle.nose_drag.specs.Forms.{hermite}
+use Rattle.nose_drag.proofs.hermite.Statement.{statement}
+use Rattle.nose_drag.proofs.hermite.Tie as tie
+
+pub hermite-spec : {M : Type 1} → statement M
+unfolding hermite
+hermite-spec =
+    tie.close
+    (tie.spec
+    (λ c. refl))

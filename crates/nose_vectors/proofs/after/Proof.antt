@@ -1,0 +1,40 @@
+-- `nose_vectors::after` meets its contract. Assumes nothing.
+use borrow.Author.Needs.{needs}
+use Rattle.nose_vectors.proofs.after.Statement.{statement}
+use Rattle.nose_vectors.proofs.after.Tie as tie
+
+pub after-spec : {M : Type 1} → statement M
+after-spec =
+    tie.close
+    (tie.spec
+    (λ
+    c
+    κs.
+    search
+    needs)
+    (λ
+    c
+    κs.
+    search
+    needs)
+    (λ
+    c
+    κs.
+    search
+    needs)
+    (λ
+    c.
+    simp (
+      c
+          .counted
+          .ensures,
+      c
+          .before
+          .agrees
+          .ensures,
+      c
+          .before
+          .before
+          .tag-of
+          .ensures,
+    )))

@@ -1,0 +1,2 @@
+-- When a stored line of the nose drag functions agrees.
+pub mod Lines

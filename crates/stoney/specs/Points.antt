@@ -1,0 +1,169 @@
+-- The points that the program stores: each number of a table is the binary64 number nearest its decimal, and the nine tables stand one after the other.
+-- `part-of-all` shows that each nose's range picks that nose's table, and `all-rise`, `rises-at` that Mach strictly rises within each.
+use mathlib.Core.Path.{_≡_, refl}
+use mathlib.Core.Bool.{Bool, true, false, _&&_}
+use mathlib.Core.List.{List, [], _∷_, _++_, map}
+use Prim.Native.Nat.{ℕ, zero, suc, _+_, _≤_, _<_}
+use native.Mathlib.Nat.{le-of-suc-le-suc, not-suc-le-zero}
+use lib.Dec.{T, lit<, lit≤}
+use lib.ListN.{length, getD, take, drop}
+use lib.Seq.{getD-take, getD-drop}
+use lib.Ieee.{Float, binary64, round, lt}
+use lib.Ieee.Fits.{and-l, and-r}
+use lib.Ieee.Positive.{positive}
+use Rattle.elementary.specs.Arithmetic.{_≺_, bits}
+use Rattle.stoney.specs.declared.StoneyNose.{StoneyNose}
+use Rattle.stoney.specs.declared.StoneyNose.the-variants.{PowerQuarter, PowerHalf, PowerThreeQuarters, ParabolaHalf, ParabolaThreeQuarters, Parabola, Ellipsoid, LvHaack, VonKarman}
+use Rattle.stoney.specs.declared.PointRange.{PointRange}
+use Rattle.stoney.specs.Tables.{noses, tabled}
+
+pub record Point : Type 0 where
+  pub mach : Float
+  pub drag : Float
+
+-- the stored point of a tabled pair: thousandths of Mach, ten-thousandths of drag, each rounded to binary64
+abbrev pub point : ℕ × ℕ → Point
+point p = record { mach = round binary64 false (p .0) 1000; drag = round binary64 false (p .1) 10000 }
+
+unfoldable pub points : StoneyNose → List Point
+points nose = map point (tabled nose)
+
+-- the two flat arrays, as one list of points
+abbrev joined : List StoneyNose → List Point
+unfolding points
+joined [] = []
+joined (nose ∷ rest) = points nose ++ joined rest
+
+unfoldable pub all-points : List Point
+unfolding joined
+all-points = joined noses
+
+-- past the end of the arrays
+abbrev pub no-point : Point
+no-point = record { mach = bits 0; drag = bits 0 }
+
+unfoldable pub machAt : ℕ → Float
+unfolding all-points
+machAt place = getD all-points place no-point .mach
+
+unfoldable pub dragAt : ℕ → Float
+unfolding all-points
+dragAt place = getD all-points place no-point .drag
+
+-- within the list it is all one what stands past its end
+pub any-default : (ps : List Point) (k : ℕ) (d d′ : Point) → k < length ps → getD ps k d ≡ getD ps k d′
+any-default [] k d d′ h = absurd (not-suc-le-zero h)
+any-default (p ∷ ps) zero d d′ h = refl
+any-default (p ∷ ps) (suc k) d d′ h = any-default ps k d d′ (le-of-suc-le-suc h)
+
+-- where a nose's points stand among all
+abbrev pub rangeOf : StoneyNose → PointRange
+rangeOf PowerQuarter = record { first = 0; count = 12 }
+rangeOf PowerHalf = record { first = 12; count = 17 }
+rangeOf PowerThreeQuarters = record { first = 29; count = 18 }
+rangeOf ParabolaHalf = record { first = 47; count = 18 }
+rangeOf ParabolaThreeQuarters = record { first = 65; count = 18 }
+rangeOf Parabola = record { first = 83; count = 18 }
+rangeOf Ellipsoid = record { first = 101; count = 12 }
+rangeOf LvHaack = record { first = 113; count = 18 }
+rangeOf VonKarman = record { first = 131; count = 18 }
+
+pub part-of-all : (nose : StoneyNose) → take (rangeOf nose .count) (drop (rangeOf nose .first) all-points) ≡ points nose
+unfolding all-points points
+part-of-all PowerQuarter = refl
+part-of-all PowerHalf = refl
+part-of-all PowerThreeQuarters = refl
+part-of-all ParabolaHalf = refl
+part-of-all ParabolaThreeQuarters = refl
+part-of-all Parabola = refl
+part-of-all Ellipsoid = refl
+part-of-all LvHaack = refl
+part-of-all VonKarman = refl
+
+-- what stands at a nose's own place k stands at the place first + k of the arrays
+pub at-place : (nose : StoneyNose) (k : ℕ) → k < rangeOf nose .count → getD all-points (rangeOf nose .first + k) no-point ≡ getD (points nose) k no-point
+at-place nose k h = rw (← part-of-all nose, getD-take, getD-drop)
+
+pub as-many : (nose : StoneyNose) → length (points nose) ≡ rangeOf nose .count
+unfolding points
+as-many PowerQuarter = refl
+as-many PowerHalf = refl
+as-many PowerThreeQuarters = refl
+as-many ParabolaHalf = refl
+as-many ParabolaThreeQuarters = refl
+as-many Parabola = refl
+as-many Ellipsoid = refl
+as-many LvHaack = refl
+as-many VonKarman = refl
+
+pub range-within : (nose : StoneyNose) → (0 < rangeOf nose .count) × (rangeOf nose .first + rangeOf nose .count ≤ 149)
+range-within PowerQuarter = (lit< tt, lit≤ tt)
+range-within PowerHalf = (lit< tt, lit≤ tt)
+range-within PowerThreeQuarters = (lit< tt, lit≤ tt)
+range-within ParabolaHalf = (lit< tt, lit≤ tt)
+range-within ParabolaThreeQuarters = (lit< tt, lit≤ tt)
+range-within Parabola = (lit< tt, lit≤ tt)
+range-within Ellipsoid = (lit< tt, lit≤ tt)
+range-within LvHaack = (lit< tt, lit≤ tt)
+range-within VonKarman = (lit< tt, lit≤ tt)
+
+abbrev pub firstMach : StoneyNose → Float
+firstMach nose = getD (points nose) 0 no-point .mach
+
+-- ---- "within each nose Mach strictly rises": one computed test over all nine tables, and one law that carries it to each entry
+
+-- every Mach is a positive number and below the next one
+abbrev pub rises : List Point → Bool
+rises [] = true
+rises (p ∷ []) = positive (p .mach)
+rises (p ∷ q ∷ rest) = positive (p .mach) && (p .mach ≺ q .mach && rises (q ∷ rest))
+
+abbrev every-nose-rises : List StoneyNose → Bool
+every-nose-rises [] = true
+every-nose-rises (nose ∷ rest) = rises (points nose) && every-nose-rises rest
+
+pub all-rise : T (every-nose-rises noses)
+unfolding points round lt
+all-rise = tt
+
+holds-at-first : (nose : StoneyNose) (rest : List StoneyNose) → T (every-nose-rises (nose ∷ rest)) → T (rises (points nose))
+holds-at-first nose rest = and-l (rises (points nose)) (every-nose-rises rest)
+
+holds-at-rest : (nose : StoneyNose) (rest : List StoneyNose) → T (every-nose-rises (nose ∷ rest)) → T (every-nose-rises rest)
+holds-at-rest nose rest = and-r (rises (points nose)) (every-nose-rises rest)
+
+abbrev from : ℕ → List StoneyNose
+from k = drop k noses
+
+rest-rises : (k : ℕ) (all : List StoneyNose) → T (every-nose-rises all) → T (every-nose-rises (drop k all))
+rest-rises zero all t = t
+rest-rises (suc k) [] t = tt
+rest-rises (suc k) (nose ∷ rest) t = rest-rises k rest (holds-at-rest nose rest t)
+
+pub nose-rises : (nose : StoneyNose) → T (rises (points nose))
+nose-rises PowerQuarter = holds-at-first _ (from 1) (rest-rises 0 noses all-rise)
+nose-rises PowerHalf = holds-at-first _ (from 2) (rest-rises 1 noses all-rise)
+nose-rises PowerThreeQuarters = holds-at-first _ (from 3) (rest-rises 2 noses all-rise)
+nose-rises ParabolaHalf = holds-at-first _ (from 4) (rest-rises 3 noses all-rise)
+nose-rises ParabolaThreeQuarters = holds-at-first _ (from 5) (rest-rises 4 noses all-rise)
+nose-rises Parabola = holds-at-first _ (from 6) (rest-rises 5 noses all-rise)
+nose-rises Ellipsoid = holds-at-first _ (from 7) (rest-rises 6 noses all-rise)
+nose-rises LvHaack = holds-at-first _ (from 8) (rest-rises 7 noses all-rise)
+nose-rises VonKarman = holds-at-first _ (from 9) (rest-rises 8 noses all-rise)
+
+tail-rises : (p q : Point) (rest : List Point) → T (rises (p ∷ q ∷ rest)) → T (rises (q ∷ rest))
+tail-rises p q rest t = and-r (p .mach ≺ q .mach) (rises (q ∷ rest)) (and-r (positive (p .mach)) (p .mach ≺ q .mach && rises (q ∷ rest)) t)
+
+-- at each entry: the Mach there is positive, and below the next one's
+pub positive-at : (ps : List Point) (k : ℕ) → T (rises ps) → k < length ps → T (positive (getD ps k no-point .mach))
+positive-at [] k t h = absurd (not-suc-le-zero h)
+positive-at (p ∷ []) zero t h = t
+positive-at (p ∷ []) (suc k) t h = absurd (not-suc-le-zero (le-of-suc-le-suc h))
+positive-at (p ∷ q ∷ rest) zero t h = and-l (positive (p .mach)) (p .mach ≺ q .mach && rises (q ∷ rest)) t
+positive-at (p ∷ q ∷ rest) (suc k) t h = positive-at (q ∷ rest) k (tail-rises p q rest t) (le-of-suc-le-suc h)
+
+pub rises-at : (ps : List Point) (k : ℕ) → T (rises ps) → suc k < length ps → T (getD ps k no-point .mach ≺ getD ps (suc k) no-point .mach)
+rises-at [] k t h = absurd (not-suc-le-zero h)
+rises-at (p ∷ []) k t h = absurd (not-suc-le-zero (le-of-suc-le-suc h))
+rises-at (p ∷ q ∷ rest) zero t h = and-l (p .mach ≺ q .mach) (rises (q ∷ rest)) (and-r (positive (p .mach)) (p .mach ≺ q .mach && rises (q ∷ rest)) t)
+rises-at (p ∷ q ∷ rest) (suc k) t h = rises-at (q ∷ rest) k (tail-rises p q rest t) (le-of-suc-le-suc h)
