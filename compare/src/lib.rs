@@ -4,6 +4,7 @@
 pub mod fixed;
 pub mod inputs;
 pub mod list;
+pub mod model;
 pub mod refusals;
 
 /// The original with ln, powf and sin replaced by document 01's fixed steps.

@@ -2,12 +2,6 @@
 use lib.Ieee.{Float}
 use Rattle.elementary.specs.Arithmetic.{bits}
 
-abbrev pub 0·0 : Float
-0·0 = bits 0x0000000000000000
-
-abbrev pub 1·0 : Float
-1·0 = bits 0x3ff0000000000000
-
 abbrev pub 3·0 : Float
 3·0 = bits 0x4008000000000000
 
@@ -52,9 +46,6 @@ abbrev pub 0·2 : Float
 
 abbrev pub 0·25 : Float
 0·25 = bits 0x3fd0000000000000
-
-abbrev pub 0·5 : Float
-0·5 = bits 0x3fe0000000000000
 
 abbrev pub 0·58 : Float
 0·58 = bits 0x3fe28f5c28f5c28f

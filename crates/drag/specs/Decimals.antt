@@ -1,27 +1,15 @@
 -- Each constant of `Constants` is the binary64 number nearest its decimal fraction: one table and one theorem, by computation.
 use Prim.Native.Nat.{ℕ}
 use mathlib.Core.Path.{_≡_, refl}
-use mathlib.Core.Bool.{false}
 use mathlib.Core.List.{List, [], _∷_, map}
-use lib.Ieee.{Float, binary64, round, ofBits}
-use Rattle.drag.specs.Constants.{0·0, 1·0, 3·0, 40·0, 51·0, 10000·0, 0·0148, 0·032, 0·035, 0·1, 0·12, 0·13, 0·15, 0·166, 0·18, 0·2, 0·25, 0·5, 0·58, 0·76, 0·8, 0·85, 1·5, 1·84, 5·6, 1·039, π/2}
+use lib.Ieee.{Float, round, ofBits}
+use Rattle.elementary.specs.Constants.{stored, nearest}
+use Rattle.drag.specs.Constants.{3·0, 40·0, 51·0, 10000·0, 0·0148, 0·032, 0·035, 0·1, 0·12, 0·13, 0·15, 0·166, 0·18, 0·2, 0·25, 0·58, 0·76, 0·8, 0·85, 1·5, 1·84, 5·6, 1·039, π/2}
 
--- a constant, and the numerator and the denominator of its decimal
-abbrev pub Row : Type 0
-Row = Float × ℕ × ℕ
-
-abbrev pub stored : Row → Float
-stored row = row .0
-
-abbrev pub nearest : Row → Float
-nearest row = round binary64 false (row .1) (row .2)
-
--- π/2 stands by the digits that the Rust's standard library writes.
-abbrev pub decimals : List Row
+-- each constant, with the numerator and the denominator of its decimal; π/2 stands by the digits that the Rust's standard library writes.
+abbrev pub decimals : List (Float × ℕ × ℕ)
 decimals =
-    (0·0, 0, 1)
-    ∷ (1·0, 1, 1)
-    ∷ (3·0, 3, 1)
+    (3·0, 3, 1)
     ∷ (40·0, 40, 1)
     ∷ (51·0, 51, 1)
     ∷ (10000·0, 10000, 1)
@@ -36,7 +24,6 @@ decimals =
     ∷ (0·18, 18, 100)
     ∷ (0·2, 2, 10)
     ∷ (0·25, 25, 100)
-    ∷ (0·5, 5, 10)
     ∷ (0·58, 58, 100)
     ∷ (0·76, 76, 100)
     ∷ (0·8, 8, 10)

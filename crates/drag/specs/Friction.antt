@@ -13,7 +13,8 @@ use Rattle.aero_error.specs.Checks.{required, dimension, _and-then_, _for-value
 use Rattle.drag.specs.declared.Limited.{Limited}
 use Rattle.drag.specs.declared.Limited.the-variants.{Is}
 use Rattle.drag.specs.declared.Limited.the-variants
-use Rattle.drag.specs.Constants.{0·0, 1·0, 51·0, 0·032, 0·1, 0·15, 0·18, 0·2, 0·5, 0·58, 1·5, 5·6, 1·039, LOW-REYNOLDS, LOW-REYNOLDS-FRICTION}
+use Rattle.elementary.specs.Constants.{0·0, 1·0, 0·5}
+use Rattle.drag.specs.Constants.{51·0, 0·032, 0·1, 0·15, 0·18, 0·2, 0·58, 1·5, 5·6, 1·039, LOW-REYNOLDS, LOW-REYNOLDS-FRICTION}
 
 infixr 20 _for-critical_ _for-limited_
 -- "a Mach number of any speed regime: finite and non-negative"

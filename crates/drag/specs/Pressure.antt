@@ -8,7 +8,8 @@ use Rattle.aero_error.specs.declared.Coefficient.{Coefficient}
 use Rattle.aero_error.specs.declared.Coefficient.the-variants.{Value}
 use Rattle.aero_error.specs.declared.Quantity.the-variants.{JointAngle, BoattailLength, BoattailAft, BoattailFore}
 use Rattle.aero_error.specs.Checks.{required, dimension, between, _and-then_, _for-value_}
-use Rattle.drag.specs.Constants.{0·0, 1·0, 3·0, 40·0, 0·035, 0·12, 0·13, 0·166, 0·25, 0·5, 0·76, 0·8, 0·85, 1·84, π/2}
+use Rattle.elementary.specs.Constants.{0·0, 1·0, 0·5}
+use Rattle.drag.specs.Constants.{3·0, 40·0, 0·035, 0·12, 0·13, 0·166, 0·25, 0·76, 0·8, 0·85, 1·84, π/2}
 use Rattle.drag.specs.Friction.{machChecked}
 
 -- eq. B.1 at a Mach number already checked

@@ -4,12 +4,11 @@ use lib.Ieee.{Float}
 use lib.Ieee.Scale.{finite}
 use Rattle.elementary.specs.Arithmetic.{_⊕_, _⊖_, _⊗_, _⊘_, _≺_, _≈_}
 use Rattle.elementary.specs.Steps.{POW}
-use Rattle.elementary.specs.Constants.{2·0}
+use Rattle.elementary.specs.Constants.{2·0, 0·0, 1·0}
 use Rattle.aero_error.specs.declared.Coefficient.{Coefficient}
 use Rattle.aero_error.specs.declared.Coefficient.the-variants.{Value}
 use Rattle.aero_error.specs.declared.Quantity.the-variants.{TransonicLowerBound, DragAtRest, DragAtLowerBound, SlopeAtLowerBound, MachBelowLowerBound}
 use Rattle.aero_error.specs.Checks.{required, dimension, between, _and-then_}
-use Rattle.drag.specs.Constants.{0·0, 1·0}
 use Rattle.stoney.specs.declared.ValueAndSlope.{ValueAndSlope}
 use Rattle.nose_drag.specs.declared.Fit.{Fit}
 use Rattle.nose_drag.specs.declared.Fit.the-variants.{Power, Quadratic}

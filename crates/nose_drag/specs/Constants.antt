@@ -1,13 +1,12 @@
 -- The decimal constants of the nose's pressure drag, each named once by its decimal, and the Rust's own names for some. `constants-nearest` shows once, by
 -- computing, that each pattern of bits is the binary64 number nearest its decimal. Those that drag.rs has too are its constants.
 use mathlib.Core.Path.{_≡_, refl}
-use mathlib.Core.Bool.{false}
 use mathlib.Core.List.{List, [], _∷_, map}
 use Prim.Native.Nat.{ℕ}
-use lib.Ieee.{Float, binary64, round, ofBits, neg, mul, div}
+use lib.Ieee.{Float, round, ofBits, neg, mul, div}
 use Rattle.elementary.specs.Arithmetic.{_⊗_, _⊘_, bits}
-use Rattle.elementary.specs.Constants.{2·0, «LN_2»}
-use Rattle.drag.specs.Constants.{0·5, 0·8, 1·0, 3·0}
+use Rattle.elementary.specs.Constants.{2·0, «LN_2», stored, nearest, 0·5, 1·0}
+use Rattle.drag.specs.Constants.{0·8, 3·0}
 
 abbrev pub 0·01 : Float
 0·01 = bits 0x3f847ae147ae147b
@@ -102,12 +101,6 @@ decimals =
     (6·0, 6, 1) ∷
     (37·0, 37, 1) ∷
     []
-
-abbrev pub stored : Float × ℕ × ℕ → Float
-stored row = row .0
-
-abbrev pub nearest : Float × ℕ × ℕ → Float
-nearest row = round binary64 false (row .1) (row .2)
 
 pub constants-nearest : map stored decimals ≡ map nearest decimals
 unfolding ofBits round

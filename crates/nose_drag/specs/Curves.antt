@@ -4,14 +4,14 @@ use lib.Ieee.{Float, ne}
 use lib.Ieee.Scale.{finite}
 use Rattle.elementary.specs.Arithmetic.{_⊕_, _⊖_, _⊗_, _⊘_, _≺_, _≼_, _≈_}
 use Rattle.elementary.specs.Steps.{LN}
-use Rattle.elementary.specs.Constants.{«LN_2»}
+use Rattle.elementary.specs.Constants.{«LN_2», 0·0, 0·5, 1·0}
 use Rattle.aero_error.specs.declared.AeroError.the-variants.{OgiveRadiusRatio, HaackAboveThird}
 use Rattle.aero_error.specs.declared.Check.{Check}
 use Rattle.aero_error.specs.declared.Check.the-variants.{Passed, Failed}
 use Rattle.aero_error.specs.declared.Coefficient.{Coefficient}
 use Rattle.aero_error.specs.declared.Quantity.the-variants.{Fineness, PowerExponent, ParabolicParameter, HaackParameter}
 use Rattle.aero_error.specs.Checks.{required, dimension, between, _and-then_}
-use Rattle.drag.specs.Constants.{0·0, 0·25, 0·5, 1·0, 3·0, SUBSONIC-MACH-LIMIT}
+use Rattle.drag.specs.Constants.{0·25, 3·0, SUBSONIC-MACH-LIMIT}
 use Rattle.drag.specs.Friction.{machChecked}
 use Rattle.drag.specs.Pressure.{jointPressureDragCoefficient}
 use Rattle.shapes.specs.declared.NoseShape.{NoseShape}

@@ -4,8 +4,8 @@ use mathlib.Core.Bool.{cond}
 use lib.Ieee.{Float, neg}
 use Rattle.elementary.specs.Arithmetic.{_⊕_, _⊖_, _⊗_, _⊘_, _≺_, _≼_}
 use Rattle.elementary.specs.Steps.{SQRT}
-use Rattle.elementary.specs.Constants.{2·0}
-use Rattle.drag.specs.Constants.{0·1, 0·5, 0·85, 1·0, 3·0}
+use Rattle.elementary.specs.Constants.{2·0, 0·5, 1·0}
+use Rattle.drag.specs.Constants.{0·1, 0·85, 3·0}
 use Rattle.drag.specs.Pressure.{stagnationRatio}
 use Rattle.stoney.specs.declared.ValueAndSlope.{ValueAndSlope}
 use Rattle.nose_drag.specs.Constants.{0·21, 0·664, 1·52, 2·1, 4·0, 6·0, GAMMA, CONE-SUPERSONIC-MACH}

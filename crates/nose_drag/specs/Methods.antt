@@ -7,7 +7,8 @@ use Rattle.aero_error.specs.declared.Coefficient.{Coefficient}
 use Rattle.aero_error.specs.declared.Coefficient.the-variants.{Value}
 use Rattle.aero_error.specs.declared.Quantity.the-variants.{Fineness, EllipsoidFineness, EllipsoidMach, OgiveKappa, FinenessThreeDrag, BluntDrag}
 use Rattle.aero_error.specs.Checks.{required, dimension, between, _and-then_}
-use Rattle.drag.specs.Constants.{0·0, 0·5, 1·0, SUBSONIC-MACH-LIMIT}
+use Rattle.elementary.specs.Constants.{0·0, 0·5, 1·0}
+use Rattle.drag.specs.Constants.{SUBSONIC-MACH-LIMIT}
 use Rattle.drag.specs.Friction.{maxOf}
 use Rattle.stoney.specs.declared.StoneyNose.the-variants
 use Rattle.stoney.specs.declared.ValueAndSlope.{ValueAndSlope}

@@ -6,9 +6,9 @@ use mathlib.Core.Bool.{true, false, true≢false}
 use mathlib.Core.List.{[], _∷_, map}
 use lib.Ieee.{Float, ofBits, round, sum, neg, add, sub, mul, div, lt}
 use Rattle.elementary.specs.Arithmetic.{_⊖_, _⊗_, _⊘_, _≺_, bits}
-use Rattle.elementary.specs.Constants.{2·0}
+use Rattle.elementary.specs.Constants.{2·0, 0·0, 0·5, 1·0}
 use Rattle.aero_error.specs.Checks.{between}
-use Rattle.drag.specs.Constants.{0·0, 0·25, 0·5, 1·0, 3·0}
+use Rattle.drag.specs.Constants.{0·25, 3·0}
 use Rattle.stoney.specs.declared.StoneyNose.the-variants.{PowerQuarter, PowerHalf, PowerThreeQuarters, ParabolaHalf, ParabolaThreeQuarters, Parabola}
 use Rattle.nose_drag.specs.declared.Reference.{Reference}
 use Rattle.nose_drag.specs.declared.Bracket.{Bracket}

@@ -10,7 +10,7 @@ use borrow.Author.Needs.{needs}
 use borrow.Fn.Kinds.{In}
 use borrow.Fn.PlainCycle.{Measures, is, falls, and}
 use Rattle.elementary.specs.Arithmetic.{_⊕_, _⊖_, _≺_, _≈_}
-use Rattle.drag.specs.Constants.{0·0, 1·0}
+use Rattle.elementary.specs.Constants.{0·0, 1·0}
 use Rattle.stoney.specs.declared.ValueAndSlope.{ValueAndSlope}
 use Rattle.nose_drag.specs.declared.Fit.{Fit}
 use Rattle.nose_drag.specs.declared.CurveShape.{CurveShape}

@@ -5,7 +5,8 @@ use mathlib.Core.Path.{_≡_}
 use mathlib.Core.Bool.{_&&_}
 use mathlib.Core.Logic.{⊎-elim}
 use Rattle.elementary.specs.Arithmetic.{_≺_, _≼_}
-use Rattle.drag.specs.Constants.{0·0, SUBSONIC-MACH-LIMIT}
+use Rattle.elementary.specs.Constants.{0·0}
+use Rattle.drag.specs.Constants.{SUBSONIC-MACH-LIMIT}
 use Rattle.nose_drag.specs.Methods.{ellipsoidSubsonicPressureDrag}
 use Rattle.nose_drag.proofs.ellipsoid_subsonic_pressure_drag.Statement.{statement}
 use Rattle.nose_drag.proofs.ellipsoid_subsonic_pressure_drag.Tie as tie

@@ -6,7 +6,7 @@ use mathlib.Core.Bool.{false}
 use lib.Ieee.{Float}
 use Rattle.elementary.specs.Arithmetic.{_⊕_, _⊖_, _⊗_, _⊘_, _≼_}
 use Rattle.elementary.specs.Steps.{POW}
-use Rattle.drag.specs.Constants.{0·0, 1·0}
+use Rattle.elementary.specs.Constants.{0·0, 1·0}
 use Rattle.stoney.specs.declared.ValueAndSlope.{ValueAndSlope}
 use Rattle.nose_drag.specs.Forms.{blunt}
 use Rattle.nose_drag.specs.Methods.{scaled}
