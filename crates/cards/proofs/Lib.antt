@@ -1,0 +1,6 @@
+-- The laws that the proofs of the cards share.
+pub mod Tests
+pub mod Numbers
+pub mod Moves
+pub mod Stream
+pub mod Prefix

@@ -1,0 +1,142 @@
+-- The two cards (document 01, "Cards"), read from a list of bytes at a position, in document 01's order: "Card bytes: left to right, bits first, settings'
+-- missing bits next, the parameter bit once the shape is read, 7 at the count byte". A card answers its content and the position after it, or its refusal.
+use mathlib.Core.Bool.{Bool, true, false, cond, not}
+use mathlib.Core.List.{List, [], _∷_, _++_}
+use Prim.Native.Nat.{ℕ, _+_, _-_, _*_}
+use lib.ListN.{length, getD, replicate}
+use lib.Dec.{leb, ltb, eqb}
+use lib.Ieee.{Float}
+use Rattle.elementary.specs.Constants.{0·0}
+use Rattle.aero_error.specs.declared.AeroError.{AeroError}
+use Rattle.aero_error.specs.declared.AeroError.the-variants.{CardEnds, ReservedBit, FieldMissing, TooManyColumns}
+use Rattle.shapes.specs.declared.NoseShape.{NoseShape}
+use Rattle.shapes.specs.declared.NoseShape.the-variants.{Conical, Ogive, Elliptical, PowerSeries, ParabolicSeries, Haack}
+use Rattle.drag_sheet.specs.declared.Settings.{Settings}
+use Rattle.drag_sheet.specs.declared.Part.{Part}
+use Rattle.drag_sheet.specs.declared.Outcome.{Outcome}
+use Rattle.drag_sheet.specs.declared.Outcome.the-variants.{Accepted, Refused}
+use Rattle.drag_sheet.specs.Layout.{most-columns}
+use Rattle.cards.specs.declared.ShapeRead.{ShapeRead}
+use Rattle.cards.specs.declared.ShapeRead.the-variants.{Shape, Refused as NoShape}
+use Rattle.cards.specs.declared.PartRead.{PartRead}
+use Rattle.cards.specs.declared.PartRead.the-variants.{Read, Refused as NoPart}
+use Rattle.cards.specs.declared.SettingsRead.{SettingsRead}
+use Rattle.cards.specs.Fields.{bit, has, byteAt, numberAt, pairAt, numbersAt, onByte, onNumber, onPair}
+
+-- ---- part cards: bit 0 shape byte, 1 shape parameter, 2 L, 3 d, 4 joint angle, 5 w
+
+-- "0 conical, 1 ogive, 2 elliptical, 3 power, 4 parabolic, 5 Haack"
+abbrev pub shapeOf : ℕ → Float → NoseShape
+shapeOf n x =
+    cond (eqb n 0) Conical
+    (cond (eqb n 1) (Ogive x)
+    (cond (eqb n 2) Elliptical
+    (cond (eqb n 3) (PowerSeries x)
+    (cond (eqb n 4) (ParabolicSeries x)
+    (Haack x)))))
+
+-- "the parameter stands for shapes 1, 3, 4, 5 and no others"
+abbrev pub takesParameter : ℕ → Bool
+takesParameter n = cond (eqb n 0) false (cond (eqb n 2) false true)
+
+-- whether the parameter's bit stands where it must, and doesn't where it mustn't
+abbrev pub parameterRight : Bool → ℕ → Bool
+parameterRight stands n = cond stands (takesParameter n) (not (takesParameter n))
+
+-- the parameter of shape n, judged and read
+unfoldable pub parameterAt : Bool → ℕ → List ℕ → ℕ → ShapeRead
+parameterAt stands n s at =
+    cond (parameterRight stands n)
+    (onNumber (numberAt stands s at) NoShape λ x next. Shape (shapeOf n x) next)
+    (NoShape FieldMissing)
+
+-- the shape byte, 5 where it is above 5, then the parameter
+unfoldable pub shapeAt : ℕ → List ℕ → ℕ → ShapeRead
+unfolding parameterAt
+shapeAt map s at =
+    onByte (byteAt (bit 0 map) s at) NoShape λ n next.
+    cond (ltb 5 n) (NoShape ReservedBit) (parameterAt (bit 1 map) n s next)
+
+-- L, d, joint angle and w
+unfoldable pub restAt : NoseShape → ℕ → List ℕ → ℕ → PartRead
+unfolding pairAt
+restAt shape map s at =
+    onPair (pairAt (bit 2 map) (bit 3 map) s at) NoPart λ L d next.
+    onPair (pairAt (bit 4 map) (bit 5 map) s next) NoPart λ angle w last.
+    Read (record { shape = shape; length = L; «aft_diameter» = d; «joint_angle» = angle; «wetted_ratio» = w }) last
+
+abbrev pub onShape : ShapeRead → (NoseShape → ℕ → PartRead) → PartRead
+onShape (Shape shape next) go = go shape next
+onShape (NoShape e) go = NoPart e
+
+-- a part card whose bit map is read: a bit above 5 is reserved
+unfoldable pub partFields : ℕ → List ℕ → ℕ → PartRead
+unfolding shapeAt restAt
+partFields map s at = cond (ltb 63 map) (NoPart ReservedBit) (onShape (shapeAt map s at) λ shape next. restAt shape map s next)
+
+unfoldable pub partAt : List ℕ → ℕ → PartRead
+unfolding partFields
+partAt s at = onByte (byteAt true s at) NoPart λ map next. partFields map s next
+
+-- ---- settings cards: bit 0 D, 1 roughness, 2 B, 3 a count byte and that many pairs M, R
+
+-- a refused settings card, with settings that say nothing
+abbrev pub noSettings : AeroError → SettingsRead
+noSettings e = record {
+  outcome = Refused e;
+  settings = record {
+    «reference_diameter» = 0·0;
+    roughness = 0·0;
+    «body_fineness» = 0·0;
+    count = 0;
+    machs = replicate most-columns 0·0;
+    reynolds = replicate most-columns 0·0;
+  };
+  next = 0;
+}
+
+-- n numbers in an array for 32
+abbrev pub slots : ℕ → List Float → List Float
+slots n xs = xs ++ replicate (most-columns - n) 0·0
+
+-- n columns, once their number is read: 7 above 32, then 4 where the pairs don't stand
+unfoldable pub columnsAt : Float → Float → Float → ℕ → List ℕ → ℕ → SettingsRead
+unfolding numbersAt
+columnsAt D roughness B n s at =
+    cond (ltb most-columns n) (noSettings TooManyColumns)
+    (cond (has s at (16 * n))
+    (record {
+      outcome = Accepted;
+      settings = record {
+        «reference_diameter» = D;
+        roughness = roughness;
+        «body_fineness» = B;
+        count = n;
+        machs = slots n (numbersAt n s at);
+        reynolds = slots n (numbersAt n s (at + 8));
+      };
+      next = at + 16 * n;
+    })
+    (noSettings CardEnds))
+
+-- B and the count byte, then the columns
+unfoldable pub finenessAt : ℕ → Float → Float → List ℕ → ℕ → SettingsRead
+unfolding columnsAt
+finenessAt map D roughness s at =
+    onNumber (numberAt true s at) noSettings λ B next.
+    onByte (byteAt (bit 3 map) s next) noSettings λ n last.
+    columnsAt D roughness B n s last
+
+-- a settings card whose bit map is read: a bit above 3 is reserved, "D and B must stand", then D, the roughness, B and the columns
+unfoldable pub settingsFields : ℕ → List ℕ → ℕ → SettingsRead
+unfolding finenessAt pairAt
+settingsFields map s at =
+    cond (ltb 15 map) (noSettings ReservedBit)
+    (cond (not (bit 0 map)) (noSettings FieldMissing)
+    (cond (not (bit 2 map)) (noSettings FieldMissing)
+    (onPair (pairAt true (bit 1 map) s at) noSettings λ D roughness next.
+    finenessAt map D roughness s next)))
+
+unfoldable pub settingsAt : List ℕ → ℕ → SettingsRead
+unfolding settingsFields
+settingsAt s at = onByte (byteAt true s at) noSettings λ map next. settingsFields map s next

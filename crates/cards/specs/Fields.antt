@@ -1,0 +1,69 @@
+-- The fields of a card (document 01, "Cards"), read from a list of bytes at a position: "a bit map byte (bit 0 lowest), then only the fields whose bit stands,
+-- in bit order, floats as 8 bytes, low byte first". A field answers its value and the position after it, or refusal 4 where the bytes end inside it.
+use mathlib.Core.Bool.{Bool, true, false, cond}
+use mathlib.Core.List.{List, [], _∷_}
+use Prim.Native.Nat.{ℕ, zero, suc, _+_, _*_, _/_, _%_, _^_}
+use lib.ListN.{length, getD}
+use lib.Dec.{leb, ltb, eqb}
+use lib.Ieee.{Float}
+use Rattle.elementary.specs.Arithmetic.{bits}
+use Rattle.elementary.specs.Constants.{0·0}
+use Rattle.aero_error.specs.declared.AeroError.{AeroError}
+use Rattle.aero_error.specs.declared.AeroError.the-variants.{CardEnds}
+use Rattle.cards.specs.declared.ByteRead.{ByteRead}
+use Rattle.cards.specs.declared.ByteRead.the-variants.{Byte, Refused as NoByte}
+use Rattle.cards.specs.declared.NumberRead.{NumberRead}
+use Rattle.cards.specs.declared.NumberRead.the-variants.{Number, Refused as NoNumber}
+use Rattle.cards.specs.declared.PairRead.{PairRead}
+use Rattle.cards.specs.declared.PairRead.the-variants.{Pair, Refused as NoPair}
+
+-- whether a bit of the bit map stands, bit 0 the lowest
+abbrev pub bit : ℕ → ℕ → Bool
+bit k map = eqb (map / 2 ^ k % 2) 1
+
+-- n bytes stand from a position on
+abbrev pub has : List ℕ → ℕ → ℕ → Bool
+has s at n = leb (at + n) (length s)
+
+-- four bytes as a number, low byte first, and eight
+abbrev pub fourBytes : List ℕ → ℕ → ℕ
+fourBytes s at = getD s at 0 + 0x100 * getD s (at + 1) 0 + 0x1_0000 * getD s (at + 2) 0 + 0x100_0000 * getD s (at + 3) 0
+
+unfoldable pub eightBytes : List ℕ → ℕ → ℕ
+eightBytes s at = fourBytes s at + 0x1_0000_0000 * fourBytes s (at + 4)
+
+-- a byte field; one whose bit doesn't stand is 0 ("An absent shape is 0 .. absent columns none")
+abbrev pub byteAt : Bool → List ℕ → ℕ → ByteRead
+byteAt false s at = Byte 0 at
+byteAt true s at = cond (has s at 1) (Byte (getD s at 0) (at + 1)) (NoByte CardEnds)
+
+-- a float field; one whose bit doesn't stand is +0 ("an absent number +0")
+abbrev pub numberAt : Bool → List ℕ → ℕ → NumberRead
+numberAt false s at = Number 0·0 at
+numberAt true s at = cond (has s at 8) (Number (bits (eightBytes s at)) (at + 8)) (NoNumber CardEnds)
+
+-- what was read goes on to what follows it, and a refusal ends the card
+abbrev pub onByte : {A : Type 0} → ByteRead → (AeroError → A) → (ℕ → ℕ → A) → A
+onByte (Byte b next) refuse go = go b next
+onByte (NoByte e) refuse go = refuse e
+
+abbrev pub onNumber : {A : Type 0} → NumberRead → (AeroError → A) → (Float → ℕ → A) → A
+onNumber (Number x next) refuse go = go x next
+onNumber (NoNumber e) refuse go = refuse e
+
+abbrev pub onPair : {A : Type 0} → PairRead → (AeroError → A) → (Float → Float → ℕ → A) → A
+onPair (Pair x y next) refuse go = go x y next
+onPair (NoPair e) refuse go = refuse e
+
+-- two float fields, one after the other
+unfoldable pub pairAt : Bool → Bool → List ℕ → ℕ → PairRead
+pairAt first second s at =
+    onNumber (numberAt first s at) NoPair λ x next.
+    onNumber (numberAt second s next) NoPair λ y last.
+    Pair x y last
+
+-- n floats, one every 16 bytes: the Mach or the Reynolds numbers of n pairs M, R
+unfoldable pub numbersAt : ℕ → List ℕ → ℕ → List Float
+unfolding eightBytes
+numbersAt zero s at = []
+numbersAt (suc n) s at = bits (eightBytes s at) ∷ numbersAt n s (at + 16)

@@ -1,0 +1,3 @@
+-- The laws that the proofs of the text share.
+pub mod Puts
+pub mod Prefix

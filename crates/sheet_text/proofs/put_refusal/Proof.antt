@@ -1,0 +1,101 @@
+-- `sheet_text::put_refusal` meets its contract.
+use native.Mathlib.Omega.{arith}
+use Rattle.sheet_text.specs.Bytes.{decimal}
+use Rattle.sheet_text.specs.Text.{refusedText, refused-name, card-name}
+use Rattle.sheet_text.proofs.Puts.{put-then, decimal-long}
+use borrow.Author.Needs.{needs}
+use Rattle.sheet_text.proofs.put_refusal.Statement.{statement}
+use Rattle.sheet_text.proofs.put_refusal.Tie as tie
+use Rattle.sheet_text.proofs.put_refusal.Reads as reads
+use Rattle.sheet_text.proofs.put_refusal.Lts as lts
+use Rattle.sheet_text.proofs.put_decimal.Reads as put-decimal-reads
+use Rattle.sheet_text.proofs.put_line_feed.Reads as put-line-feed-reads
+use Rattle.sheet_text.proofs.put_name.Reads as put-name-reads
+
+-- src/rt:180:28
+slice-aggregate-put-name : tie.Need-slice-aggregate-put-name
+slice-aggregate-put-name c = search needs
+
+-- src/rt:180:9
+put-name-requires : tie.Need-put-name-requires
+put-name-requires c κs = search needs
+
+-- src/rt:181:9
+put-decimal-requires : tie.Need-put-decimal-requires
+put-decimal-requires c κs = search needs
+
+-- src/rt:182:27
+slice-aggregate-put-name-2 : tie.Need-slice-aggregate-put-name-2
+slice-aggregate-put-name-2 c = search needs
+
+-- src/rt:182:9
+put-name-requires-2 : tie.Need-put-name-requires-2
+put-name-requires-2 c κs =
+    let d = c .before .before .before .before in
+    let m = d .before .before .before .before in
+    let a = m .before .before .before .before .args in
+    let h = decimal-long (a .number) in
+    omega (arith, h, d .put-decimal .ensures .place, d .put-decimal .kept .1 .0, m .put-name .ensures .place, m .put-name .kept .1 .0)
+
+-- src/rt:183:9
+put-decimal-requires-2 : tie.Need-put-decimal-requires-2
+put-decimal-requires-2 c κs =
+    let n = c .before .before .before in
+    let d = n .before .before .before .before .before in
+    let m = d .before .before .before .before in
+    let a = m .before .before .before .before .args in
+    let h = decimal-long (a .number) in
+    omega (arith, h, n .put-name2 .ensures .place, n .put-name2 .kept .1 .0, d .put-decimal .ensures .place, d .put-decimal .kept .1 .0, m .put-name .ensures .place, m .put-name .kept .1 .0, m .before .before .before .before .pre)
+
+-- src/rt:184:5
+put-line-feed-requires : tie.Need-put-line-feed-requires
+put-line-feed-requires c κs =
+    let k = c .before .before .before in
+    let n = k .before .before .before .before in
+    let d = n .before .before .before .before .before in
+    let m = d .before .before .before .before in
+    let a = m .before .before .before .before .args in
+    let h = decimal-long (a .number) in
+    let i = decimal-long (a .card) in
+    omega (arith, h, i, k .put-decimal2 .ensures .place, k .put-decimal2 .kept .1 .0, n .put-name2 .ensures .place, n .put-name2 .kept .1 .0, d .put-decimal .ensures .place, d .put-decimal .kept .1 .0, m .put-name .ensures .place, m .put-name .kept .1 .0, m .before .before .before .before .pre)
+
+-- src/rt:176:1
+same-length : tie.Need-same-length
+same-length c = search needs
+
+-- src/rt:176:1
+returns : tie.Need-returns
+unfolding refusedText
+returns c =
+    let f = c .before .before .put-line-feed in
+    let k' = c .before .before .before .before .before .before in
+    let k = k' .put-decimal2 in
+    let n' = k' .before .before .before .before in
+    let n = n' .put-name2 in
+    let d' = n' .before .before .before .before .before in
+    let d = d' .put-decimal in
+    let m' = d' .before .before .before .before in
+    let m = m' .put-name in
+    let a = m' .before .before .before .before .args in
+    let h = decimal-long (a .number) in
+    let i = decimal-long (a .card) in (
+      put-then 0 (m .result) (f .result) refused-name _ (a .out .now) (m .last .1 .0) (f .last .0) (m .ensures)
+          (put-then (m .result) (d .result) (f .result) (decimal (a .number)) _ (m .last .1 .0) (d .last .1 .0) (f .last .0) (d .ensures)
+          (put-then (d .result) (n .result) (f .result) card-name _ (d .last .1 .0) (n .last .1 .0) (f .last .0) (n .ensures)
+          (put-then (n .result) (k .result) (f .result) (decimal (a .card)) _ (n .last .1 .0) (k .last .1 .0) (f .last .0) (k .ensures) (f .ensures)))),
+      omega (arith, h, i, f .ensures .place, k .ensures .place, n .ensures .place, d .ensures .place, m .ensures .place),
+    )
+
+pub put-refusal-spec : {M : Type 1} → statement M
+put-refusal-spec =
+    tie.close
+    (tie.spec
+    slice-aggregate-put-name
+    put-name-requires
+    put-decimal-requires
+    slice-aggregate-put-name-2
+    put-name-requires-2
+    put-decimal-requires-2
+    put-line-feed-requires
+    same-length
+    returns)
