@@ -42,22 +42,24 @@ SETTINGS = ["diameter", "roughness", "fineness"]  # bits 0 to 2 of the settings 
 PART_NAMES = ["length", "aft", "angle", "wetted"]  # bits 2 to 5 of a part card
 NUMBER = re.compile(r"[+-]?([0-9]+\.?[0-9]*|\.[0-9]+)([eE][+-]?[0-9]+)?|nan|-?inf", re.ASCII)
 
-# What each refusal number means to somebody who wrote the cards.
+# What each refusal number means to somebody who wrote the cards; a pair: settings card, part card.
 REFUSALS = {
-    1: "a number outside what the drag formulas allow (Mach, Reynolds number, fineness, joint angle, "
-       "or the parameter of the shape)",
+    1: ("body fineness, a Mach or a Reynolds number is not one that the drag formulas allow: they must be "
+        "finite and not negative, the fineness above 0",
+        "a number of this part is not one that the drag formulas allow: joint angle 0 to pi/2; power and "
+        "parabolic parameter 0 to 1; haack parameter not negative; length over growth in diameter finite"),
     2: "the ogive's radius ratio is not a finite number of at least 1",
-    3: "the Haack parameter is above 1/3",
+    3: "the haack parameter is above 1/3",
     4: "the bytes end inside this card, or there are none at all",
     5: "a bit that must be 0 is set, or the shape number is above 5",
-    6: "a field is missing or doesn't belong: diameter and fineness must be given; a parameter must be "
-       "given for ogive, power, parabolic and haack, and for no other shape",
+    6: ("diameter or fineness is missing",
+        "ogive, power, parabolic and haack need their parameter, and other shapes may not have one"),
     7: "more than 32 columns",
     8: "a place that is not in the design, or a column that is not there",
     9: "there are 16 parts already, and no more fit",
     10: "too few cells for the sheet: 19 for each column are needed",
-    11: "a number outside its interval: diameter 0.001 to 100, roughness 0 to 1, length and aft diameter "
-        "0 to 100, wetted ratio 0 to 10000",
+    11: ("the diameter is not within 0.001 to 100, or the roughness not within 0 to 1",
+         "length or aft diameter is not within 0 to 100, or the wetted ratio not within 0 to 10000"),
 }
 
 
@@ -71,21 +73,14 @@ class Problem(Exception):
 def load(name):
     """The lines of a text file, or of standard input for -."""
     try:
-        if name == "-":
-            data = sys.stdin.buffer.read()
-        else:
-            with open(name, "rb") as file:
-                data = file.read()
+        with open(0 if name == "-" else name, "rb", closefd=name != "-") as file:
+            data = file.read().replace(b"\r\n", b"\n").removeprefix(b"\xef\xbb\xbf")
     except (OSError, ValueError) as error:
         raise Problem(name, 0, getattr(error, "strerror", None) or str(error)) from None
-    lines = data.replace(b"\r\n", b"\n").split(b"\n")
-    texts = []
-    for number, line in enumerate(lines, 1):
-        try:
-            texts.append(line.decode("utf-8-sig" if number == 1 else "utf-8"))
-        except UnicodeDecodeError:
-            raise Problem(name, number, "this is not text (UTF-8)") from None
-    return texts
+    try:
+        return data.decode("utf-8").split("\n")
+    except UnicodeDecodeError as error:
+        raise Problem(name, data.count(b"\n", 0, error.start) + 1, "this is not text (UTF-8)") from None
 
 
 # ---- write: text to card bytes ----
@@ -94,42 +89,48 @@ def to_number(word):
     """The number that a word stands for; ValueError says what is wrong."""
     if not NUMBER.fullmatch(word):
         raise ValueError(f"'{word}' is not a number")
+    if math.isinf(float(word)) and "inf" not in word:
+        raise ValueError(f"'{word}' is too large for a number (write inf if that is meant)")
     return float(word)
 
 
-def to_numbers(words, count, name):
+def to_fields(words, count, name):
+    """The bytes of exactly so many numbers."""
     if len(words) < count:
         raise ValueError(f"a number is missing after '{name}'")
     if len(words) > count:
         raise ValueError(f"'{words[count]}' is too much after '{name}'")
-    return [to_number(word) for word in words]
+    return struct.pack(f"<{count}d", *map(to_number, words))
+
+
+def to_shape(shape, words):
+    """The shape's field, and its parameter's if it has one, which is taken from the words after it."""
+    if shape not in SHAPES:
+        raise ValueError(f"unknown shape '{shape}' (known: {', '.join(SHAPES)})")
+    fields = {0: bytes([SHAPES.index(shape)])}
+    given = bool(words) and NUMBER.fullmatch(words[0]) is not None
+    if given and shape not in WITH_PARAMETER:
+        raise ValueError(f"'{shape}' takes no parameter, but '{words[0]}' follows")
+    if shape in WITH_PARAMETER:
+        if not given:
+            raise ValueError(f"a number, the parameter, is missing after '{shape}'")
+        fields[1] = to_fields([words.pop(0)], 1, shape)
+    return fields
 
 
 def to_part(words):
     """The bytes of one part card."""
     fields = {}  # from bit to bytes
-    words = list(words)
     if words and words[0] not in PART_NAMES:
-        shape = words.pop(0)
-        if shape not in SHAPES:
-            raise ValueError(f"unknown shape '{shape}' (known: {', '.join(SHAPES)})")
-        fields[0] = bytes([SHAPES.index(shape)])
-        given = bool(words) and NUMBER.fullmatch(words[0]) is not None
-        if given and shape not in WITH_PARAMETER:
-            raise ValueError(f"'{shape}' takes no parameter, but '{words[0]}' follows")
-        if not given and shape in WITH_PARAMETER:
-            raise ValueError(f"a number, the parameter, is missing after '{shape}'")
-        if given:
-            fields[1] = struct.pack("<d", float(words.pop(0)))
+        fields = to_shape(words.pop(0), words)
     while words:
-        name = words.pop(0)
+        name, value, words = words[0], words[1:2], words[2:]
         if name not in PART_NAMES:
             raise ValueError(f"unknown word '{name}' (known: {', '.join(PART_NAMES)})")
         bit = 2 + PART_NAMES.index(name)
         if bit in fields:
             raise ValueError(f"'{name}' is given twice")
-        fields[bit] = struct.pack("<d", *to_numbers(words[:1], 1, name))
-        words = words[1:]
+        fields[bit] = to_fields(value, 1, name)
     return card(fields)
 
 
@@ -163,11 +164,11 @@ def statement(key, words, fields, columns, parts):
         bit = SETTINGS.index(key)
         if bit in fields:
             raise ValueError(f"'{key}' is given twice")
-        fields[bit] = struct.pack("<d", *to_numbers(words, 1, key))
+        fields[bit] = to_fields(words, 1, key)
     elif key == "column":
         if len(columns) == 255:
             raise ValueError("more than 255 columns can't be written into a card")
-        columns.append(struct.pack("<dd", *to_numbers(words, 2, key)))
+        columns.append(to_fields(words, 2, key))
     elif key == "part":
         parts.append(to_part(words))
     else:
@@ -178,153 +179,149 @@ def statement(key, words, fields, columns, parts):
 
 def refusal(name, lines):
     """The plain words for a `refused N card K` input; None for any other."""
-    match = re.fullmatch(r"refused ([0-9]+) card ([0-9]+)", lines[0], re.ASCII)
+    match = re.fullmatch(r"refused ([0-9]{1,9}) card ([0-9]{1,9})", lines[0], re.ASCII)
     if not match:
         return None
-    if any(line for line in lines[1:]):
+    if any(lines[1:]):
         raise Problem(name, 2, "something follows a refusal")
     number, place = int(match[1]), int(match[2])
     if number not in REFUSALS:
         raise Problem(name, 1, f"there is no refusal {number}")
-    where = "the settings card" if place == 0 else f"part card {place} (place {place - 1})"
-    return f"refused, {where}: {REFUSALS[number]} (refusal {number})"
+    what = REFUSALS[number] if isinstance(REFUSALS[number], str) else REFUSALS[number][min(place, 1)]
+    where = "the settings card" if place == 0 else f"part card {place}"
+    return f"refused at {where}: {what} (refusal {number})"
 
 
-def cells(words):
-    """The numbers of a row's words of 16 hexadecimal digits."""
+def row_name(done, line):
+    """The name that a line must have after the rows done; for none left, 'nothing'."""
+    last = done[-1][0] if done else ""
+    following = {"": "mach", "friction": "base", "base": "total", "total": "nothing"}
+    if last in following:
+        return following[last]
+    return f"part {len(done) - 1}" if line.startswith("part") else "friction"
+
+
+def row(done, line):
+    """A line as (its name, its numbers); ValueError says what is wrong."""
+    name = row_name(done, line)
+    if line != name and not line.startswith(name + " "):
+        raise ValueError(f"'{line[:20]}' stands where {name} was expected")
+    words = line[len(name):].split(" ")[1:]
     for word in words:
         if not re.fullmatch(r"[0-9a-f]{16}", word):
             raise ValueError(f"'{word}' is not 16 hexadecimal digits")
-    return [struct.unpack(">d", bytes.fromhex(word))[0] for word in words]
+    if done and len(words) != len(done[0][1]):
+        raise ValueError(f"{len(words)} numbers, but the mach line has {len(done[0][1])}")
+    return name, [struct.unpack(">d", bytes.fromhex(word))[0] for word in words]
 
 
 def rows(name, lines):
-    """A list of (row's name, its numbers): mach, part 0, part 1, .., friction, base, total."""
-    if lines and lines[-1] == "":
-        lines = lines[:-1]
-    found, after = [], ["mach", "part", "friction", "base", "total"]
-    for number, line in enumerate(lines, 1):
-        words = line.split(" ")
-        expected = after[0] if after else "nothing more"
-        if expected == "part" and words[0] == "friction":
-            after.pop(0)
-            expected = "friction"
-        if words[0] != expected:
-            raise Problem(name, number, f"'{words[0]}' stands where {expected} was expected")
-        start = 1
-        if expected == "part":
-            start = 2
-            if words[1:2] != [str(len(found) - 1)]:
-                raise Problem(name, number, f"part {len(found) - 1} was expected")
-        else:
-            after.pop(0)
+    """The list of rows: mach, part 0, part 1, .., friction, base, total."""
+    done = []
+    for number, line in enumerate(lines if lines[-1] else lines[:-1], 1):
         try:
-            found.append((" ".join(words[:start]), cells(words[start:])))
+            done.append(row(done, line))
         except ValueError as error:
             raise Problem(name, number, str(error)) from None
-        if len(found[-1][1]) != len(found[0][1]):
-            raise Problem(name, number, f"{len(found[0][1])} columns were expected, as in the first line")
-    if after:
-        raise Problem(name, len(lines) + 1, "the sheet ends too early: "
-                      f"{'friction' if after[0] == 'part' else after[0]} is missing")
-    return found
+    if row_name(done, "") != "nothing":
+        raise Problem(name, len(done) + 1, f"the sheet ends where {row_name(done, '')} was expected")
+    return done
+
+
+def decimal(x):
+    """Six places, for very small and very large numbers six digits."""
+    return format(x, ".6f" if x == 0 or 1e-3 <= abs(x) < 1e6 else ".6g")
 
 
 def table(found):
-    """The rows as aligned decimals; the Machs in full, the others to six places."""
-    texts = [[format(x, ".10g") if name == "mach" else format(x, ".6f") if abs(x) < 1e6 else format(x, ".6g")
-              for x in row] for name, row in found]
+    """The rows as aligned decimals."""
+    texts = [[name] + [f"{x:.10g}" if name == "mach" else decimal(x) for x in values] for name, values in found]
     widths = [max(map(len, column)) for column in zip(*texts)]
-    left = max(len(name) for name, _ in found)
-    return "".join(
-        "  ".join([name.ljust(left)] + [text.rjust(width) for text, width in zip(row, widths)]).rstrip() + "\n"
-        for (name, _), row in zip(found, texts))
+    lines = [[words[0].ljust(widths[0])] + [word.rjust(width) for word, width in zip(words[1:], widths[1:])]
+             for words in texts]
+    return "".join("  ".join(words).rstrip() + "\n" for words in lines)
 
 
 # ---- plot: rows to SVG ----
 
 COLOURS = ["#1b6ca8", "#c8553d", "#2e8b57", "#8e5ea2", "#b8860b", "#5b7083", "#d0648f", "#3aa6a0"]
+DASHES = ["", ' stroke-dasharray="6 4"', ' stroke-dasharray="2 3"']
 LEFT, TOP, WIDTH, HEIGHT = 80, 50, 560, 380  # the frame around the curves
 
 
-def ticks(low, high):
-    """Round numbers from at or below low to at or above high, with their step."""
-    rough = (high - low) / 6
+def ticks(values):
+    """Round numbers around 0 and all the values."""
+    low, high = min(values + [0.0]), max(values + [0.0])
+    rough = (high - low if high - low > 1e-300 else 1.0) / 6
     power = 10.0 ** math.floor(math.log10(rough))
     step = next(m * power for m in (1, 2, 2.5, 5, 10, 20) if m * power >= rough)
     first, last = math.floor(low / step + 1e-9), math.ceil(high / step - 1e-9)
-    return [k * step for k in range(first, last + 1)]
+    return [k * step for k in range(first, max(last, first + 1) + 1)]
 
 
-def span(values):
-    """Lowest and highest of 0 and the values, never the same number."""
-    low, high = min([0.0] + values), max([0.0] + values)
-    return (low, high) if high - low > 1e-300 else (low, low + 1.0)
+def svg_line(x1, y1, x2, y2, more):
+    return f'<line x1="{x1:.1f}" y1="{y1:.1f}" x2="{x2:.1f}" y2="{y2:.1f}" {more}/>'
 
 
-def curve(points, colour, dash, to_x, to_y):
+def svg_text(x, y, words, more=""):
+    return f'<text x="{x:.1f}" y="{y:.1f}"{more}>{words}</text>'
+
+
+def curve(points, colour, dash):
     """One row: its line, interrupted where a number isn't finite, and a mark at each column."""
-    out, run = [], []
-    for mach, value in points + [(math.nan, math.nan)]:
-        if math.isfinite(value):
-            run.append(f"{to_x(mach):.1f},{to_y(value):.1f}")
+    out, run_of = [], []
+    for x, y in points + [(0.0, math.nan)]:
+        if math.isfinite(y):
+            run_of.append(f"{x:.1f},{y:.1f}")
+            out.append(f'<circle cx="{x:.1f}" cy="{y:.1f}" r="2.8" fill="{colour}"/>')
             continue
-        if len(run) > 1:
-            out.append(f'<polyline points="{" ".join(run)}" fill="none" stroke="{colour}" '
+        if len(run_of) > 1:
+            out.append(f'<polyline points="{" ".join(run_of)}" fill="none" stroke="{colour}" '
                        f'stroke-width="2"{dash}/>')
-        for point in run:
-            x, y = point.split(",")
-            out.append(f'<circle cx="{x}" cy="{y}" r="2.8" fill="{colour}"/>')
-        run = []
+        run_of = []
     return out
 
 
 def axes(xs, ys, to_x, to_y):
-    """Grid lines, numbers at them, and the names of the axes."""
-    out = []
-    for x in xs:
-        out.append(f'<line x1="{to_x(x):.1f}" y1="{TOP}" x2="{to_x(x):.1f}" y2="{TOP + HEIGHT + 5}" '
-                   'stroke="#dddddd"/>')
-        out.append(f'<text x="{to_x(x):.1f}" y="{TOP + HEIGHT + 21}" text-anchor="middle">{x:.6g}</text>')
-    for y in ys:
-        out.append(f'<line x1="{LEFT - 5}" y1="{to_y(y):.1f}" x2="{LEFT + WIDTH}" y2="{to_y(y):.1f}" '
-                   'stroke="#dddddd"/>')
-        out.append(f'<text x="{LEFT - 10}" y="{to_y(y) + 4:.1f}" text-anchor="end">{y:.6g}</text>')
-    middle = TOP + HEIGHT / 2
+    """Grid lines, numbers at them, the frame, and the names of the axes."""
+    grey, middle, end = 'stroke="#dddddd"', ' text-anchor="middle"', ' text-anchor="end"'
+    right, low, half = LEFT + WIDTH, TOP + HEIGHT, TOP + HEIGHT / 2
+    out = [svg_line(to_x(x), TOP, to_x(x), low + 5, grey) for x in xs]
+    out += [svg_line(LEFT - 5, to_y(y), right, to_y(y), grey) for y in ys]
+    out += [svg_text(to_x(x), low + 21, f"{x:.6g}", middle) for x in xs]
+    out += [svg_text(LEFT - 10, to_y(y) + 4, f"{y:.6g}", end) for y in ys]
     out.append(f'<rect x="{LEFT}" y="{TOP}" width="{WIDTH}" height="{HEIGHT}" fill="none" stroke="#444444"/>')
-    out.append(f'<text x="{LEFT + WIDTH / 2:.0f}" y="{TOP + HEIGHT + 45}" text-anchor="middle">Mach</text>')
-    out.append(f'<text x="22" y="{middle:.0f}" text-anchor="middle" transform="rotate(-90 22 {middle:.0f})">'
-               'drag coefficient</text>')
+    out.append(svg_text(LEFT + WIDTH / 2, low + 45, "Mach", middle))
+    out.append(svg_text(22, half, "drag coefficient", middle + f' transform="rotate(-90 22 {half:.1f})"'))
     return out
 
 
 def plot(name, found):
     """The sheet as an SVG picture."""
     machs = found[0][1]
-    drawn = [(row, values) for row, values in found[1:] if not row.startswith("part") or any(values)]
+    drawn = [(title, values) for title, values in found[1:] if not title.startswith("part") or any(values)]
     finite = [x for _, values in drawn for x in values if math.isfinite(x)]
-    if not machs or not all(map(math.isfinite, machs)) or not finite:
-        raise Problem(name, 0, "there is nothing to plot: no column with finite numbers")
+    if not finite or not all(map(math.isfinite, machs)):
+        raise Problem(name, 0, "there is nothing to plot: no columns, or no finite numbers in them")
     if max(map(abs, machs + finite)) > 1e100:
         raise Problem(name, 0, "the numbers are too large to plot")
-    xs, ys = ticks(*span(machs)), ticks(*span(finite))
+    xs, ys = ticks(machs), ticks(finite)
     to_x = lambda x: LEFT + WIDTH * (x - xs[0]) / (xs[-1] - xs[0])
     to_y = lambda y: TOP + HEIGHT * (ys[-1] - y) / (ys[-1] - ys[0])
     high = max(TOP + HEIGHT + 65, TOP + 30 + 22 * len(drawn))
     out = [f'<svg xmlns="http://www.w3.org/2000/svg" viewBox="0 0 790 {high}" width="790" height="{high}" '
            'font-family="sans-serif" font-size="13" fill="#222222">',
            f'<rect width="790" height="{high}" fill="#fcfcfa"/>',
-           f'<text x="{LEFT}" y="30" font-size="16">Drag coefficient against Mach</text>']
+           svg_text(LEFT, 30, "Drag coefficient against Mach", ' font-size="16"')]
     out += axes(xs, ys, to_x, to_y)
-    for index, (row, values) in enumerate(drawn):
-        colour = "#111111" if row == "total" else COLOURS[index % len(COLOURS)]
-        dash = ' stroke-dasharray="6 4"' if index >= len(COLOURS) and row != "total" else ""
+    for index, (title, values) in enumerate(drawn):
+        colour = "#111111" if title == "total" else COLOURS[index % len(COLOURS)]
+        dash = "" if title == "total" else DASHES[index // len(COLOURS) % 3]
         points = sorted(zip(machs, values), key=lambda point: point[0])
-        out += curve(points, colour, dash, to_x, to_y)
-        y = TOP + 16 + 22 * index
-        out.append(f'<line x1="{LEFT + WIDTH + 18}" y1="{y}" x2="{LEFT + WIDTH + 46}" y2="{y}" '
-                   f'stroke="{colour}" stroke-width="2"{dash}/>')
-        out.append(f'<text x="{LEFT + WIDTH + 54}" y="{y + 4}">{row}</text>')
+        out += curve([(to_x(mach), to_y(value)) for mach, value in points], colour, dash)
+        x, y = LEFT + WIDTH + 18, TOP + 16 + 22 * index
+        out.append(svg_line(x, y, x + 28, y, f'stroke="{colour}" stroke-width="2"{dash}'))
+        out.append(svg_text(x + 36, y + 4, title))
     return "\n".join(out + ["</svg>"]) + "\n"
 
 
@@ -335,29 +332,29 @@ def run(command, name):
         return to_cards(name, lines)
     refused = refusal(name, lines)
     if command == "read":
-        return ((refused + "\n") if refused else table(rows(name, lines))).encode()
+        return (refused + "\n" if refused else table(rows(name, lines))).encode()
     if refused:
         raise Problem(name, 1, "there is nothing to plot: " + refused)
     return plot(name, rows(name, lines)).encode()
 
 
 def main(arguments):
-    if any(word in ("-h", "--help") for word in arguments):
-        print(__doc__, end="")
-        return 0
-    if len(arguments) != 2 or arguments[0] not in ("write", "read", "plot"):
+    wants_help = any(word in ("-h", "--help") for word in arguments)
+    if not wants_help and (len(arguments) != 2 or arguments[0] not in ("write", "read", "plot")):
         print("usage: card.py write|read|plot FILE   (card.py --help says more)", file=sys.stderr)
         return 2
     try:
-        sys.stdout.buffer.write(run(*arguments))
-        sys.stdout.buffer.flush()
+        output = __doc__.encode() if wants_help else run(*arguments)
+        with open(1, "wb", closefd=False) as file:
+            file.write(output)
     except Problem as problem:
         print(f"card.py: {problem}", file=sys.stderr)
         return 1
     except OSError as error:
         print(f"card.py: output: {error.strerror}", file=sys.stderr)
-        sys.stderr.flush()
         return 1
+    except KeyboardInterrupt:
+        return 130
     return 0
 
 

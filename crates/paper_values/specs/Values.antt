@@ -4,7 +4,7 @@ use Prim.Native.Nat.{ℕ}
 use mathlib.Core.Path.{_≡_, refl}
 use mathlib.Core.Bool.{false}
 use mathlib.Core.List.{List, [], _∷_, _++_, map}
-use lib.Ieee.{Float, binary64, nan, add, sub, mul, div, sum, round, neg, lt, le, eq, ofBits, ofInt, isNan}
+use lib.Ieee.{Float, binary64, nan, inf, add, sub, mul, div, sum, round, neg, lt, le, eq, ofBits, ofInt, isNan}
 use Rattle.elementary.specs.Arithmetic.{whole, bits}
 use Rattle.elementary.specs.Steps.{LN, POW, lnSteps, lnSum}
 use Rattle.elementary.specs.Split.{splitOf}
@@ -102,15 +102,16 @@ step-hold : map defined step-values ≡ map given step-values
 unfolding add sub mul div sum round neg lt le eq ofBits dimension machChecked stagnationRatio jointPressureDragCoefficient coefficientOf stepCurve fromTransonic fitted fitWith restWith fitOf quadraticAt blunt stagnationDragSlope newCurve build recorded between
 step-hold = refl
 
--- scaling with c3 = 0 and c0 = 1 at fineness 0 and 3
+-- scaling with c3 = 0 and c0 = 1 at fineness 0 and 3; and the critical Reynolds number of roughness 0
 abbrev pub scaling-values : List Row
 scaling-values =
     (answer (finenessScaledPressureDrag 0·0 1·0 0·0), value 1·0)
     ∷ (answer (finenessScaledPressureDrag 0·0 1·0 3·0), value 0·0)
+    ∷ (answer (criticalReynolds 0·0), value (inf false))
     ∷ []
 
 scaling-hold : map defined scaling-values ≡ map given scaling-values
-unfolding add sub mul div sum round neg lt le eq ofBits ofInt dimension POW LN lnSteps lnSum splitOf finenessScaledPressureDrag isNan
+unfolding add sub mul div sum round neg lt le eq ofBits ofInt dimension POW LN lnSteps lnSum splitOf finenessScaledPressureDrag criticalReynolds isNan
 scaling-hold = refl
 
 abbrev pub starred : List Row
