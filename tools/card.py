@@ -1,16 +1,12 @@
 #!/usr/bin/env python3
 """Cards and sheets of the program `sheet`, as readable text, decimals and a plot.
 
-  card.py write FILE.txt > FILE.card     readable text in, card bytes out
-  card.py read FILE.sheet                the sheet's rows as decimals
-  card.py plot FILE.sheet > FILE.svg     the sheet's rows against Mach
+  card.py write rocket.txt > rocket.card    readable text in, card bytes out
+  sheet < rocket.card > rocket.sheet        the program itself
+  card.py read rocket.sheet                 the sheet's rows as decimals
+  card.py plot rocket.sheet > rocket.svg    the sheet's rows against Mach
 
-FILE may be - for standard input. The way from text to plot:
-
-  card.py write rocket.txt > rocket.card
-  sheet < rocket.card > rocket.sheet
-  card.py read rocket.sheet
-  card.py plot rocket.sheet > rocket.svg
+A file's name may be - for standard input.
 
 The text has one statement a line; # starts a comment, blank lines are skipped.
 
@@ -18,7 +14,7 @@ The text has one statement a line; # starts a comment, blank lines are skipped.
   roughness 2e-5            relative roughness, 0 to 1 (left out: 0)
   fineness 20.5             length of the body over its diameter (must be given)
   column 0.3 7.8e6          Mach and Reynolds number; one line for each column
-  part ogive 1 length 0.25 aft 0.054 angle 0 wetted 12.6
+  part ogive 1 length 0.25 aft 0.054 angle 0 wetted 12.43
                             one line for each part, from the nose backwards
 
 A part is: the shape, its parameter, then names with a number in any order:
@@ -26,9 +22,8 @@ length and aft diameter in metres, joint angle in radians, wetted area over
 reference area. A name left out counts as 0, a shape left out as conical.
 Shapes with a parameter: ogive (radius ratio, 1 is tangent), power (exponent),
 parabolic, haack (0 is von Karman). Shapes without: conical, elliptical.
-Numbers are decimal, or nan, inf, -inf. Any number is written as it stands;
-whether it is accepted is for `sheet` to say. Only the fields given stand in
-the card.
+Numbers are decimal, or nan, inf, -inf. Any number is written as it stands, and
+only what is given; whether it is accepted is for `sheet` to say.
 """
 
 import math
@@ -78,7 +73,7 @@ def load(name):
     except (OSError, ValueError) as error:
         raise Problem(name, 0, getattr(error, "strerror", None) or str(error)) from None
     try:
-        return data.decode("utf-8").split("\n")
+        return data.decode("utf-8").removesuffix("\n").split("\n")
     except UnicodeDecodeError as error:
         raise Problem(name, data.count(b"\n", 0, error.start) + 1, "this is not text (UTF-8)") from None
 
@@ -111,9 +106,9 @@ def to_shape(shape, words):
     given = bool(words) and NUMBER.fullmatch(words[0]) is not None
     if given and shape not in WITH_PARAMETER:
         raise ValueError(f"'{shape}' takes no parameter, but '{words[0]}' follows")
-    if shape in WITH_PARAMETER:
-        if not given:
-            raise ValueError(f"a number, the parameter, is missing after '{shape}'")
+    if not given and shape in WITH_PARAMETER:
+        raise ValueError(f"a number, the parameter, is missing after '{shape}'")
+    if given:
         fields[1] = to_fields([words.pop(0)], 1, shape)
     return fields
 
@@ -152,7 +147,7 @@ def to_cards(name, lines):
             raise Problem(name, number, str(error)) from None
     for bit in (0, 2):
         if bit not in fields:
-            raise Problem(name, len(lines), f"'{SETTINGS[bit]}' is not given anywhere up to the last line")
+            raise Problem(name, len(lines), f"'{SETTINGS[bit]}' is not given in any line up to this last one")
     if columns:
         fields[3] = bytes([len(columns)]) + b"".join(columns)
     return card(fields) + b"".join(parts)
@@ -182,11 +177,11 @@ def refusal(name, lines):
     match = re.fullmatch(r"refused ([0-9]{1,9}) card ([0-9]{1,9})", lines[0], re.ASCII)
     if not match:
         return None
-    if any(lines[1:]):
-        raise Problem(name, 2, "something follows a refusal")
     number, place = int(match[1]), int(match[2])
     if number not in REFUSALS:
         raise Problem(name, 1, f"there is no refusal {number}")
+    if len(lines) > 1:
+        raise Problem(name, 2, "something follows a refusal")
     what = REFUSALS[number] if isinstance(REFUSALS[number], str) else REFUSALS[number][min(place, 1)]
     where = "the settings card" if place == 0 else f"part card {place}"
     return f"refused at {where}: {what} (refusal {number})"
@@ -218,7 +213,7 @@ def row(done, line):
 def rows(name, lines):
     """The list of rows: mach, part 0, part 1, .., friction, base, total."""
     done = []
-    for number, line in enumerate(lines if lines[-1] else lines[:-1], 1):
+    for number, line in enumerate(lines, 1):
         try:
             done.append(row(done, line))
         except ValueError as error:
@@ -252,7 +247,7 @@ LEFT, TOP, WIDTH, HEIGHT = 80, 50, 560, 380  # the frame around the curves
 def ticks(values):
     """Round numbers around 0 and all the values."""
     low, high = min(values + [0.0]), max(values + [0.0])
-    rough = (high - low if high - low > 1e-300 else 1.0) / 6
+    rough = (high - low if high - low > 1e-300 else 1.0) / 10
     power = 10.0 ** math.floor(math.log10(rough))
     step = next(m * power for m in (1, 2, 2.5, 5, 10, 20) if m * power >= rough)
     first, last = math.floor(low / step + 1e-9), math.ceil(high / step - 1e-9)
@@ -269,17 +264,13 @@ def svg_text(x, y, words, more=""):
 
 def curve(points, colour, dash):
     """One row: its line, interrupted where a number isn't finite, and a mark at each column."""
-    out, run_of = [], []
-    for x, y in points + [(0.0, math.nan)]:
+    marks, path, pen = [], "", "M"
+    for x, y in points:
         if math.isfinite(y):
-            run_of.append(f"{x:.1f},{y:.1f}")
-            out.append(f'<circle cx="{x:.1f}" cy="{y:.1f}" r="2.8" fill="{colour}"/>')
-            continue
-        if len(run_of) > 1:
-            out.append(f'<polyline points="{" ".join(run_of)}" fill="none" stroke="{colour}" '
-                       f'stroke-width="2"{dash}/>')
-        run_of = []
-    return out
+            marks.append(f'<circle cx="{x:.1f}" cy="{y:.1f}" r="2.8" fill="{colour}"/>')
+            path += f"{pen}{x:.1f},{y:.1f} "
+        pen = "L" if math.isfinite(y) else "M"
+    return marks + [f'<path d="{path.strip()}" fill="none" stroke="{colour}" stroke-width="2"{dash}/>']
 
 
 def axes(xs, ys, to_x, to_y):
@@ -292,8 +283,7 @@ def axes(xs, ys, to_x, to_y):
     out += [svg_text(LEFT - 10, to_y(y) + 4, f"{y:.6g}", end) for y in ys]
     out.append(f'<rect x="{LEFT}" y="{TOP}" width="{WIDTH}" height="{HEIGHT}" fill="none" stroke="#444444"/>')
     out.append(svg_text(LEFT + WIDTH / 2, low + 45, "Mach", middle))
-    out.append(svg_text(22, half, "drag coefficient", middle + f' transform="rotate(-90 22 {half:.1f})"'))
-    return out
+    return out + [svg_text(22, half, "drag coefficient", middle + f' transform="rotate(-90 22 {half:.1f})"')]
 
 
 def plot(name, found):
@@ -301,10 +291,8 @@ def plot(name, found):
     machs = found[0][1]
     drawn = [(title, values) for title, values in found[1:] if not title.startswith("part") or any(values)]
     finite = [x for _, values in drawn for x in values if math.isfinite(x)]
-    if not finite or not all(map(math.isfinite, machs)):
-        raise Problem(name, 0, "there is nothing to plot: no columns, or no finite numbers in them")
-    if max(map(abs, machs + finite)) > 1e100:
-        raise Problem(name, 0, "the numbers are too large to plot")
+    if not finite or not all(abs(x) < 1e100 for x in machs + finite):
+        raise Problem(name, 0, "can't be plotted: no columns, no finite numbers, or numbers too large")
     xs, ys = ticks(machs), ticks(finite)
     to_x = lambda x: LEFT + WIDTH * (x - xs[0]) / (xs[-1] - xs[0])
     to_y = lambda y: TOP + HEIGHT * (ys[-1] - y) / (ys[-1] - ys[0])
@@ -347,15 +335,14 @@ def main(arguments):
         output = __doc__.encode() if wants_help else run(*arguments)
         with open(1, "wb", closefd=False) as file:
             file.write(output)
+        return 0
     except Problem as problem:
         print(f"card.py: {problem}", file=sys.stderr)
-        return 1
     except OSError as error:
         print(f"card.py: output: {error.strerror}", file=sys.stderr)
-        return 1
     except KeyboardInterrupt:
-        return 130
-    return 0
+        print("card.py: interrupted", file=sys.stderr)
+    return 1
 
 
 if __name__ == "__main__":

@@ -1,6 +1,7 @@
 //! The Rust side of the comparison: document 01's fixed steps, the original built from its own
 //! source text, and what the programs that make lists share.
 
+pub mod cards;
 pub mod fixed;
 pub mod inputs;
 pub mod list;
