@@ -4,3 +4,4 @@ pub mod Numbers
 pub mod Moves
 pub mod Stream
 pub mod Prefix
+pub mod Never

@@ -135,7 +135,7 @@ row-long from C cells h = length-take-le C (drop from cells) (simp length-drop (
 
 -- the row of a place below 16 lies among 16 rows
 pub row-fits : (place C : ℕ) → place < 16 → place * C + C ≤ 16 * C
-row-fits place C h = rw suc-mul at (mul-le-mul-right {m = suc place} {n = 16} C (omega arith))
+row-fits place C h = rw (suc-mul place C) at (mul-le-mul-right {m = suc place} {n = 16} C (omega arith))
 
 -- a part's line has at most 552 bytes
 pub part-long : (place : ℕ) (row : List Float) → length row ≤ 32 → length (lineText (partName place) row) ≤ 552

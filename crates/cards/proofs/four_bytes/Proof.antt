@@ -3,85 +3,64 @@ use native.Mathlib.Omega.{arith}
 use borrow.Author.Needs.{needs}
 use Rattle.cards.proofs.four_bytes.Statement.{statement}
 use Rattle.cards.proofs.four_bytes.Tie as tie
-use Rattle.cards.proofs.four_bytes.Reads as reads
-use Rattle.cards.proofs.four_bytes.Lts as lts
-use Rattle.cards.proofs.wide.Reads as wide-reads
 
--- src/rt:76:10
 shared-slice-read-wide : tie.Need-shared-slice-read-wide
 shared-slice-read-wide c = search needs
 
--- src/rt:76:5
 wide-requires : tie.Need-wide-requires
 wide-requires c κs = search needs
 
--- src/rt:77:26
 add-wide : tie.Need-add-wide
 add-wide c = search needs
 
--- src/rt:77:24
 shared-slice-read-wide-2 : tie.Need-shared-slice-read-wide-2
 shared-slice-read-wide-2 c = search needs
 
--- src/rt:77:19
 wide-requires-2 : tie.Need-wide-requires-2
 wide-requires-2 c κs = search needs
 
--- src/rt:77:11
 mul-result : tie.Need-mul-result
 mul-result c =
     omega arith
 
--- src/rt:76:5
 add-result : tie.Need-add-result
 add-result c =
     omega arith
 
--- src/rt:78:29
 add-wide-2 : tie.Need-add-wide-2
 add-wide-2 c = search needs
 
--- src/rt:78:27
 shared-slice-read-wide-3 : tie.Need-shared-slice-read-wide-3
 shared-slice-read-wide-3 c = search needs
 
--- src/rt:78:22
 wide-requires-3 : tie.Need-wide-requires-3
 wide-requires-3 c κs = search needs
 
--- src/rt:78:11
 mul-result-2 : tie.Need-mul-result-2
 mul-result-2 c =
     omega arith
 
--- src/rt:76:5
 add-result-2 : tie.Need-add-result-2
 add-result-2 c =
     omega arith
 
--- src/rt:79:31
 add-wide-3 : tie.Need-add-wide-3
 add-wide-3 c = search needs
 
--- src/rt:79:29
 shared-slice-read-wide-4 : tie.Need-shared-slice-read-wide-4
 shared-slice-read-wide-4 c = search needs
 
--- src/rt:79:24
 wide-requires-4 : tie.Need-wide-requires-4
 wide-requires-4 c κs = search needs
 
--- src/rt:79:11
 mul-result-3 : tie.Need-mul-result-3
 mul-result-3 c =
     omega arith
 
--- src/rt:76:5
 add-result-3 : tie.Need-add-result-3
 add-result-3 c =
     omega arith
 
--- src/rt:72:1
 returns : tie.Need-returns
 returns c =
     omega arith

@@ -1,28 +1,23 @@
+-- `cards::has` meets its contract: the test `at + n ≤ length s`, made without a sum that could wrap.
 use Prim.Native.Nat.{_+_, _<_, _≤_}
 use lib.ListN.{length}
--- `cards::has` meets its contract: the test `at + n ≤ length s`, made without a sum that could wrap.
 use native.Mathlib.Omega.{arith}
-use mathlib.Core.Path.{sym, _∙_}
+use mathlib.Core.Path.{sym}
 use borrow.Author.Tests.{lt-leb}
 use Rattle.cards.proofs.Tests.{leb-move}
 use borrow.Author.Needs.{needs}
 use Rattle.cards.proofs.has.Statement.{statement}
 use Rattle.cards.proofs.has.Tie as tie
-use Rattle.cards.proofs.has.Reads as reads
-use Rattle.cards.proofs.has.Lts as lts
 
--- src/rt:66:9
 returns : tie.Need-returns
 returns c =
     let a = c .before .args in
     let h : length (a .s .now) < a .at + a .n = omega arith in
     sym (lt-leb _ _ h)
 
--- src/rt:68:11
 sub-result : tie.Need-sub-result
 sub-result c = search needs
 
--- src/rt:62:1
 returns-2 : tie.Need-returns-2
 returns-2 c =
     let a = c .before .args in leb-move (a .at) (a .n) _ (c .if1 .left)

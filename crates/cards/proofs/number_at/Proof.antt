@@ -3,36 +3,25 @@ use Rattle.cards.specs.Fields.{eightBytes}
 use borrow.Author.Needs.{needs}
 use Rattle.cards.proofs.number_at.Statement.{statement}
 use Rattle.cards.proofs.number_at.Tie as tie
-use Rattle.cards.proofs.number_at.Reads as reads
-use Rattle.cards.proofs.number_at.Lts as lts
-use Rattle.cards.proofs.four_bytes.Reads as four-bytes-reads
-use Rattle.elementary.proofs.from_bits.Reads as from-bits-reads
 
--- src/rt:87:9
 four-bytes-requires : tie.Need-four-bytes-requires
 four-bytes-requires c κs = search needs
 
--- src/rt:88:30
 add-four-bytes : tie.Need-add-four-bytes
 add-four-bytes c = search needs
 
--- src/rt:88:9
 four-bytes-requires-2 : tie.Need-four-bytes-requires-2
 four-bytes-requires-2 c κs = search needs
 
--- src/rt:89:33
 mul-from-bits : tie.Need-mul-from-bits
 mul-from-bits c = search needs
 
--- src/rt:89:27
 add-from-bits : tie.Need-add-from-bits
 add-from-bits c = search needs
 
--- src/rt:89:5
 from-bits-requires : tie.Need-from-bits-requires
 from-bits-requires c κs = search needs
 
--- src/rt:83:1
 returns : tie.Need-returns
 unfolding eightBytes
 returns c =

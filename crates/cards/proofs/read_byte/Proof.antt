@@ -1,45 +1,37 @@
+-- `cards::read_byte` meets its contract.
 use Prim.Native.Nat.{_+_, _≤_}
 use lib.ListN.{length}
--- the byte stands
--- `cards::read_byte` meets its contract.
 use native.Mathlib.Omega.{arith}
 use mathlib.Core.Path.{sym, _∙_}
 use borrow.Author.Tests.{leb-true}
 use borrow.Author.Needs.{needs}
 use Rattle.cards.proofs.read_byte.Statement.{statement}
 use Rattle.cards.proofs.read_byte.Tie as tie
-use Rattle.cards.proofs.read_byte.Reads as reads
-use Rattle.cards.proofs.read_byte.Lts as lts
-use Rattle.cards.proofs.has.Reads as has-reads
+
+-- the byte stands
 
 stands : (c : tie.Then2) → let a = c .before .before .before .before .args in a .at + 1 ≤ length (a .s .now)
 stands c = leb-true _ _ (sym (c .before .has .ensures) ∙ c .if2 .taken)
 
--- src/rt:97:12
 has-requires : tie.Need-has-requires
 has-requires c κs = search needs
 
--- src/rt:99:24
 shared-slice-read-t7 : tie.Need-shared-slice-read-t7
 shared-slice-read-t7 c =
     let h = stands (c .before) in omega (arith, h)
 
--- src/rt:100:23
 add-t8 : tie.Need-add-t8
 add-t8 c =
     let h = stands (c .before) in omega (arith, h)
 
--- src/rt:98:13
 returns : tie.Need-returns
 returns c =
     simp (c .before .before .before .if1 .taken, ← c .before .before .has .ensures, c .before .if2 .taken)
 
--- src/rt:103:9
 returns-2 : tie.Need-returns-2
 returns-2 c =
     simp (c .before .before .if1 .taken, ← c .before .has .ensures, c .if2 .left)
 
--- src/rt:93:1
 returns-3 : tie.Need-returns-3
 returns-3 c =
     simp (c .if1 .left)

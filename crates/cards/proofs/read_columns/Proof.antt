@@ -1,77 +1,61 @@
 -- `cards::read_columns` meets its contract.
-use mathlib.Core.Path.{_≡_, refl, sym, ap, _∙_}
+use mathlib.Core.Path.{sym, _∙_}
 use Prim.Native.Nat.{_+_, _*_, _≤_}
 use native.Mathlib.Omega.{arith}
 use lib.ListN.{length}
 use borrow.Author.Tests.{lt-ltb, le-ltb, leb-true}
 use Rattle.cards.specs.Cards.{columnsAt}
--- the pairs stand
 use borrow.Author.Needs.{needs}
 use Rattle.cards.proofs.read_columns.Statement.{statement}
 use Rattle.cards.proofs.read_columns.Tie as tie
-use Rattle.cards.proofs.read_columns.Reads as reads
-use Rattle.cards.proofs.read_columns.Lts as lts
-use Rattle.cards.proofs.has.Reads as has-reads
-use Rattle.cards.proofs.no_settings.Reads as no-settings-reads
-use Rattle.cards.proofs.read_numbers.Reads as read-numbers-reads
+
+-- the pairs stand
 
 stand : (c : tie.Then2) → let a = c .before .before .before .before .args in a .at + 16 * a .n ≤ length (a .s .now)
 stand c = leb-true _ _ (sym (c .before .has .ensures) ∙ c .if2 .taken)
 
--- src/rt:315:9
 no-settings-requires : tie.Need-no-settings-requires
 no-settings-requires c κs = search needs
 
--- src/rt:315:9
 returns : tie.Need-returns
 unfolding columnsAt
 returns c =
     simp (lt-ltb _ _ (c .before .if1 .taken)) (c .no-settings .ensures)
 
--- src/rt:317:19
 mul-has : tie.Need-mul-has
 mul-has c = search needs
 
--- src/rt:317:8
 has-requires : tie.Need-has-requires
 has-requires c κs = search needs
 
--- src/rt:318:13
 read-numbers-requires : tie.Need-read-numbers-requires
 read-numbers-requires c κs =
     let h = stand c in omega (arith, h)
 
--- src/rt:319:47
 add-read-numbers : tie.Need-add-read-numbers
 add-read-numbers c =
     let h = stand (c .before) in omega (arith, h)
 
--- src/rt:319:13
 read-numbers-requires-2 : tie.Need-read-numbers-requires-2
 read-numbers-requires-2 c κs =
     let h = stand (c .before) in omega (arith, h)
 
--- src/rt:330:24
 mul-t14 : tie.Need-mul-t14
 mul-t14 c = search needs
 
--- src/rt:330:19
 add-t17 : tie.Need-add-t17
 add-t17 c =
     let h = stand (c .before .before) in omega (arith, h)
 
--- src/rt:320:9
 returns-2 : tie.Need-returns-2
 unfolding columnsAt
 returns-2 c =
     let b = c .before .before in
     simp (le-ltb _ _ (b .before .before .if1 .left), ← b .before .has .ensures, b .if2 .taken, c .before .read-numbers .ensures, c .read-numbers2 .ensures)
 
--- src/rt:333:5
 no-settings-requires-2 : tie.Need-no-settings-requires-2
 no-settings-requires-2 c κs = search needs
 
--- src/rt:310:1
 returns-3 : tie.Need-returns-3
 unfolding columnsAt
 returns-3 c =

@@ -3,63 +3,45 @@ use Rattle.cards.specs.Cards.{finenessAt}
 use borrow.Author.Needs.{needs}
 use Rattle.cards.proofs.read_fineness.Statement.{statement}
 use Rattle.cards.proofs.read_fineness.Tie as tie
-use Rattle.cards.proofs.read_fineness.Reads as reads
-use Rattle.cards.proofs.read_fineness.Lts as lts
-use Rattle.cards.proofs.no_settings.Reads as no-settings-reads
-use Rattle.cards.proofs.read_byte.Reads as read-byte-reads
-use Rattle.cards.proofs.read_columns.Reads as read-columns-reads
-use Rattle.cards.proofs.read_number.Reads as read-number-reads
 
--- src/rt:340:11
 read-number-requires : tie.Need-read-number-requires
 read-number-requires c κs = search needs
 
--- src/rt:341:29
 enum-known-e : tie.Need-enum-known-e
 enum-known-e c = search needs
 
--- src/rt:341:35
 no-settings-requires : tie.Need-no-settings-requires
 no-settings-requires c κs = search needs
 
--- src/rt:342:37
 enum-known-b : tie.Need-enum-known-b
 enum-known-b c = search needs
 
--- src/rt:342:56
 read-byte-requires : tie.Need-read-byte-requires
 read-byte-requires c κs = search needs
 
--- src/rt:343:31
 enum-known-e-2 : tie.Need-enum-known-e-2
 enum-known-e-2 c = search needs
 
--- src/rt:343:37
 no-settings-requires-2 : tie.Need-no-settings-requires-2
 no-settings-requires-2 c κs = search needs
 
--- src/rt:344:37
 enum-known-n : tie.Need-enum-known-n
 enum-known-n c = search needs
 
--- src/rt:344:56
 read-columns-requires : tie.Need-read-columns-requires
 read-columns-requires c κs = search needs
 
--- src/rt:337:1
 returns : tie.Need-returns
 unfolding finenessAt
 returns c =
     simp (← c .before .before .before .before .read-number .ensures, c .before .before .e .given .1) (c .no-settings .ensures)
 
--- src/rt:337:1
 returns-2 : tie.Need-returns-2
 unfolding finenessAt
 returns-2 c =
     let b = c .before .before .before .before .before .before in
     simp (← b .before .before .read-number .ensures, b .b .given .1, ← c .before .before .before .before .read-byte .ensures, c .before .before .e2 .given .1) (c .no-settings2 .ensures)
 
--- src/rt:337:1
 returns-3 : tie.Need-returns-3
 unfolding finenessAt
 returns-3 c =

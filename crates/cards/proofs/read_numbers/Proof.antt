@@ -1,5 +1,4 @@
 -- `cards::read_numbers` meets its contract: after i turns the first i slots hold their numbers.
-use borrow.Author.Needs.{needs}
 use mathlib.Core.Path.{_≡_, refl, ap, _∙_}
 use mathlib.Core.List.{List}
 use Prim.Native.Nat.{ℕ, _-_, _≤_}
@@ -11,9 +10,6 @@ use Rattle.cards.specs.Cards.{slots}
 use Rattle.cards.proofs.Numbers.{slot-filled}
 use Rattle.cards.proofs.read_numbers.Statement.{statement}
 use Rattle.cards.proofs.read_numbers.Tie as tie
-use Rattle.cards.proofs.read_numbers.Reads as reads
-use Rattle.cards.proofs.read_numbers.Lts as lts
-use Rattle.cards.proofs.number_at.Reads as number-at-reads
 
 abbrev Inv-loop : tie.InvT-loop
 Inv-loop n s at out₀ i₀ out i = (i ≤ n) × (out ≡ slots i (numbersAt i s at))
@@ -21,48 +17,39 @@ Inv-loop n s at out₀ i₀ out i = (i ≤ n) × (out ≡ slots i (numbersAt i s
 abbrev μ-loop : tie.MeasureT-loop
 μ-loop n s at out₀ i₀ out i = n - i
 
--- src/rt:151:5
 loop-holds : tie.Need-loop-holds Inv-loop μ-loop
 unfolding numbersAt
 loop-holds c =
     (omega arith, refl)
 
--- src/rt:152:36
 mul-number-at : tie.Need-mul-number-at Inv-loop μ-loop
 mul-number-at c =
     omega arith
 
--- src/rt:152:31
 add-number-at : tie.Need-add-number-at Inv-loop μ-loop
 add-number-at c =
     omega arith
 
--- src/rt:152:18
 number-at-requires : tie.Need-number-at-requires Inv-loop μ-loop
 number-at-requires c κs =
     omega arith
 
--- src/rt:152:9
 mul-out : tie.Need-mul-out Inv-loop μ-loop
 mul-out c =
     omega arith
 
--- src/rt:152:9
 array-write-out : tie.Need-array-write-out Inv-loop μ-loop
 array-write-out c =
     omega arith
 
--- src/rt:153:9
 add-i : tie.Need-add-i Inv-loop μ-loop
 add-i c =
     omega arith
 
--- src/rt:151:5
 loop-less : tie.Need-loop-less Inv-loop μ-loop
 loop-less c =
     omega arith
 
--- src/rt:151:5
 loop-again : tie.Need-loop-again Inv-loop μ-loop
 loop-again c =
     let a = c .before .before .before .before .args in
@@ -70,7 +57,6 @@ loop-again c =
     let x = c .number-at .result in
     (omega arith, ap (λ (xs : List Float). set xs (l .i) x) (l .inv .1) ∙ ap (λ (v : Float). set (slots (l .i) (numbersAt (l .i) (a .s .now) (a .at))) (l .i) v) (c .number-at .ensures) ∙ slot-filled (l .i) (a .s .now) (a .at) (omega arith))
 
--- src/rt:145:1
 returns : tie.Need-returns Inv-loop μ-loop
 returns c =
     let a = c .before .before .before .args in

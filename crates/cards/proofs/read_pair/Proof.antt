@@ -3,48 +3,36 @@ use Rattle.cards.specs.Fields.{pairAt}
 use borrow.Author.Needs.{needs}
 use Rattle.cards.proofs.read_pair.Statement.{statement}
 use Rattle.cards.proofs.read_pair.Tie as tie
-use Rattle.cards.proofs.read_pair.Reads as reads
-use Rattle.cards.proofs.read_pair.Lts as lts
-use Rattle.cards.proofs.read_number.Reads as read-number-reads
 
--- src/rt:131:11
 read-number-requires : tie.Need-read-number-requires
 read-number-requires c κs = search needs
 
--- src/rt:132:29
 enum-known-e : tie.Need-enum-known-e
 enum-known-e c = search needs
 
--- src/rt:133:37
 enum-known-x : tie.Need-enum-known-x
 enum-known-x c = search needs
 
--- src/rt:133:56
 read-number-requires-2 : tie.Need-read-number-requires-2
 read-number-requires-2 c κs = search needs
 
--- src/rt:134:33
 enum-known-e-2 : tie.Need-enum-known-e-2
 enum-known-e-2 c = search needs
 
--- src/rt:135:41
 enum-known-y : tie.Need-enum-known-y
 enum-known-y c = search needs
 
--- src/rt:128:1
 returns : tie.Need-returns
 unfolding pairAt
 returns c =
     simp (← c .before .before .before .read-number .ensures, c .before .e .given .1)
 
--- src/rt:128:1
 returns-2 : tie.Need-returns-2
 unfolding pairAt
 returns-2 c =
     let b = c .before .before .before .before .before in
     simp (← b .before .before .read-number .ensures, b .x .given .1, ← c .before .before .before .read-number2 .ensures, c .before .e2 .given .1)
 
--- src/rt:128:1
 returns-3 : tie.Need-returns-3
 unfolding pairAt
 returns-3 c =

@@ -4,40 +4,29 @@ use Rattle.cards.specs.Cards.{partFields}
 use borrow.Author.Needs.{needs}
 use Rattle.cards.proofs.read_part_fields.Statement.{statement}
 use Rattle.cards.proofs.read_part_fields.Tie as tie
-use Rattle.cards.proofs.read_part_fields.Reads as reads
-use Rattle.cards.proofs.read_part_fields.Lts as lts
-use Rattle.cards.proofs.read_rest.Reads as read-rest-reads
-use Rattle.cards.proofs.read_shape.Reads as read-shape-reads
 
--- src/rt:272:9
 returns : tie.Need-returns
 unfolding partFields
 returns c =
     simp (lt-ltb _ _ (c .if1 .taken))
 
--- src/rt:274:11
 read-shape-requires : tie.Need-read-shape-requires
 read-shape-requires c κs = search needs
 
--- src/rt:275:28
 enum-known-e : tie.Need-enum-known-e
 enum-known-e c = search needs
 
--- src/rt:276:28
 enum-known-shape : tie.Need-enum-known-shape
 enum-known-shape c = search needs
 
--- src/rt:276:45
 read-rest-requires : tie.Need-read-rest-requires
 read-rest-requires c κs = search needs
 
--- src/rt:268:1
 returns-2 : tie.Need-returns-2
 unfolding partFields
 returns-2 c =
     simp (le-ltb _ _ (c .before .before .before .before .if1 .left), ← c .before .before .before .read-shape .ensures, c .before .e .given .1)
 
--- src/rt:268:1
 returns-3 : tie.Need-returns-3
 unfolding partFields
 returns-3 c =

@@ -3,39 +3,27 @@ use Rattle.cards.specs.Cards.{settingsAt}
 use borrow.Author.Needs.{needs}
 use Rattle.cards.proofs.read_settings.Statement.{statement}
 use Rattle.cards.proofs.read_settings.Tie as tie
-use Rattle.cards.proofs.read_settings.Reads as reads
-use Rattle.cards.proofs.read_settings.Lts as lts
-use Rattle.cards.proofs.no_settings.Reads as no-settings-reads
-use Rattle.cards.proofs.read_byte.Reads as read-byte-reads
-use Rattle.cards.proofs.read_settings_fields.Reads as read-settings-fields-reads
 
--- src/rt:376:11
 read-byte-requires : tie.Need-read-byte-requires
 read-byte-requires c κs = search needs
 
--- src/rt:377:27
 enum-known-e : tie.Need-enum-known-e
 enum-known-e c = search needs
 
--- src/rt:377:33
 no-settings-requires : tie.Need-no-settings-requires
 no-settings-requires c κs = search needs
 
--- src/rt:378:26
 enum-known-value : tie.Need-enum-known-value
 enum-known-value c = search needs
 
--- src/rt:378:43
 read-settings-fields-requires : tie.Need-read-settings-fields-requires
 read-settings-fields-requires c κs = search needs
 
--- src/rt:373:1
 returns : tie.Need-returns
 unfolding settingsAt
 returns c =
     simp (← c .before .before .before .before .read-byte .ensures, c .before .before .e .given .1) (c .no-settings .ensures)
 
--- src/rt:373:1
 returns-2 : tie.Need-returns-2
 unfolding settingsAt
 returns-2 c =

@@ -4,70 +4,52 @@ use Rattle.cards.specs.Cards.{settingsFields}
 use borrow.Author.Needs.{needs}
 use Rattle.cards.proofs.read_settings_fields.Statement.{statement}
 use Rattle.cards.proofs.read_settings_fields.Tie as tie
-use Rattle.cards.proofs.read_settings_fields.Reads as reads
-use Rattle.cards.proofs.read_settings_fields.Lts as lts
-use Rattle.cards.proofs.no_settings.Reads as no-settings-reads
-use Rattle.cards.proofs.read_fineness.Reads as read-fineness-reads
-use Rattle.cards.proofs.read_pair.Reads as read-pair-reads
 
--- src/rt:354:9
 no-settings-requires : tie.Need-no-settings-requires
 no-settings-requires c κs = search needs
 
--- src/rt:354:9
 returns : tie.Need-returns
 unfolding settingsFields
 returns c =
     simp (lt-ltb _ _ (c .before .if1 .taken)) (c .no-settings .ensures)
 
--- src/rt:357:9
 no-settings-requires-2 : tie.Need-no-settings-requires-2
 no-settings-requires-2 c κs = search needs
 
--- src/rt:357:9
 returns-2 : tie.Need-returns-2
 unfolding settingsFields
 returns-2 c =
     simp (le-ltb _ _ (c .before .before .if1 .left), ne-eqb _ _ (c .before .if2 .taken)) (c .no-settings2 .ensures)
 
--- src/rt:360:9
 no-settings-requires-3 : tie.Need-no-settings-requires-3
 no-settings-requires-3 c κs = search needs
 
--- src/rt:360:9
 returns-3 : tie.Need-returns-3
 unfolding settingsFields
 returns-3 c =
     simp (le-ltb _ _ (c .before .before .before .if1 .left), eq-eqb _ _ (c .before .before .if2 .left), ne-eqb _ _ (c .before .if3 .taken)) (c .no-settings3 .ensures)
 
--- src/rt:362:11
 read-pair-requires : tie.Need-read-pair-requires
 read-pair-requires c κs = search needs
 
--- src/rt:363:27
 enum-known-e : tie.Need-enum-known-e
 enum-known-e c = search needs
 
--- src/rt:363:33
 no-settings-requires-4 : tie.Need-no-settings-requires-4
 no-settings-requires-4 c κs = search needs
 
--- src/rt:365:20
 enum-known-d : tie.Need-enum-known-d
 enum-known-d c = search needs
 
--- src/rt:368:14
 read-fineness-requires : tie.Need-read-fineness-requires
 read-fineness-requires c κs = search needs
 
--- src/rt:350:1
 returns-4 : tie.Need-returns-4
 unfolding settingsFields
 returns-4 c =
     let b = c .before .before .before .before in
     simp (le-ltb _ _ (b .before .before .before .if1 .left), eq-eqb _ _ (b .before .before .if2 .left), eq-eqb _ _ (b .before .if3 .left), ← b .read-pair .ensures, c .before .before .e .given .1) (c .no-settings4 .ensures)
 
--- src/rt:350:1
 returns-5 : tie.Need-returns-5
 unfolding settingsFields
 returns-5 c =

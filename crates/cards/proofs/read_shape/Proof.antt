@@ -4,40 +4,29 @@ use Rattle.cards.specs.Cards.{shapeAt}
 use borrow.Author.Needs.{needs}
 use Rattle.cards.proofs.read_shape.Statement.{statement}
 use Rattle.cards.proofs.read_shape.Tie as tie
-use Rattle.cards.proofs.read_shape.Reads as reads
-use Rattle.cards.proofs.read_shape.Lts as lts
-use Rattle.cards.proofs.read_byte.Reads as read-byte-reads
-use Rattle.cards.proofs.read_parameter.Reads as read-parameter-reads
 
--- src/rt:225:11
 read-byte-requires : tie.Need-read-byte-requires
 read-byte-requires c κs = search needs
 
--- src/rt:226:27
 enum-known-e : tie.Need-enum-known-e
 enum-known-e c = search needs
 
--- src/rt:227:26
 enum-known-value : tie.Need-enum-known-value
 enum-known-value c = search needs
 
--- src/rt:231:17
 read-parameter-requires : tie.Need-read-parameter-requires
 read-parameter-requires c κs = search needs
 
--- src/rt:222:1
 returns : tie.Need-returns
 unfolding shapeAt
 returns c =
     simp (← c .before .before .before .read-byte .ensures, c .before .e .given .1)
 
--- src/rt:222:1
 returns-2 : tie.Need-returns-2
 unfolding shapeAt
 returns-2 c =
     simp (← c .before .before .before .before .read-byte .ensures, c .before .before .value .given .1, lt-ltb _ _ (c .if1 .taken))
 
--- src/rt:222:1
 returns-3 : tie.Need-returns-3
 unfolding shapeAt
 returns-3 c =

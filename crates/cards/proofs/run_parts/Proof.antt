@@ -1,32 +1,20 @@
 -- `cards::run_parts` meets its contract: at each turn all the part cards from there on come to what all of them came to at the start.
-use Prim.Native.Nat.{ℕ}
-use Rattle.cards.specs.Run.{stopped, runStopped}
+use Prim.Native.Nat.{ℕ, _-_}
+use Rattle.cards.specs.Run.{stopped, runStopped, Sized, allPartCards}
 use Rattle.drag_sheet.specs.declared.Outcome.the-variants.{Refused}
-use mathlib.Core.Path.{subst}
-use Prim.Native.Nat.{_<_}
+use mathlib.Core.Path.{subst, _≡_, refl, sym, ap, _∙_}
 use mathlib.Core.List.{List}
 use lib.Ieee.{Float}
 use Rattle.drag_sheet.specs.declared.Sheet.{Sheet}
-use Rattle.aero_error.specs.declared.Check.the-variants.{Passed}
-use Rattle.drag_sheet.specs.Calls.{sheetDecision}
 use Rattle.cards.specs.declared.PartRead.the-variants.{Read}
 use Rattle.cards.specs.Cards.{partAt}
-use Rattle.cards.specs.Run.{insertLast}
 use Rattle.cards.proofs.Moves.{part-reach}
 use Rattle.cards.proofs.Stream.{cards-end, card-refused, part-refused, part-accepted, refused-call, accepted-call, stopped-here, not-accepted, sized-after, sheetWith, cellsWith}
 use borrow.Author.Needs.{needs}
-use mathlib.Core.Path.{_≡_, refl, sym, ap, _∙_}
-use Prim.Native.Nat.{_-_, _≤_}
 use native.Mathlib.Omega.{arith}
 use lib.ListN.{length}
-use Rattle.cards.specs.Run.{Sized, Stopped, allPartCards}
 use Rattle.cards.proofs.run_parts.Statement.{statement}
 use Rattle.cards.proofs.run_parts.Tie as tie
-use Rattle.cards.proofs.run_parts.Reads as reads
-use Rattle.cards.proofs.run_parts.Lts as lts
-use Rattle.cards.proofs.read_part.Reads as read-part-reads
-use Rattle.cards.proofs.stopped.Reads as stopped-reads
-use Rattle.drag_sheet.proofs.insert.Reads as insert-reads
 
 abbrev Inv-loop : tie.InvT-loop
 Inv-loop s start cells₀ at₀ sheet₀ cells at sheet =
@@ -41,30 +29,24 @@ card-read : (c : tie.After-insert Inv-loop μ-loop) → let p = c .before .befor
     partAt (c .before .before .before .before .before .before .before .before .before .before .args .s .now) (l .at) ≡ Read (p .0) (p .1 .0)
 card-read c = sym (c .before .before .before .before .before .read-part .ensures) ∙ c .before .before .before .part .given .1
 
--- src/rt:417:5
 loop-holds : tie.Need-loop-holds Inv-loop μ-loop
 loop-holds c =
     (refl, c .before .before .pre, refl)
 
--- src/rt:419:15
 read-part-requires : tie.Need-read-part-requires Inv-loop μ-loop
 read-part-requires c κs = search needs
 
--- src/rt:420:31
 enum-known-e : tie.Need-enum-known-e Inv-loop μ-loop
 enum-known-e c = search needs
 
--- src/rt:421:17
 stopped-requires : tie.Need-stopped-requires Inv-loop μ-loop
 stopped-requires c κs =
     c .before .before .before .before .before .loop .inv .1 .parts
 
--- src/rt:421:17
 same-length : tie.Need-same-length Inv-loop μ-loop
 same-length c =
     c .before .before .before .before .before .before .loop .inv .0
 
--- src/rt:421:17
 returns : tie.Need-returns Inv-loop μ-loop
 returns c =
     let b = c .before .before .before .before in
@@ -73,19 +55,15 @@ returns c =
     let e = c .before .before .e .given .0 .0 in
     stopped-here _ _ (l .sheet) (l .cells) _ (l .inv .2 ∙ card-refused (a .s .now) (l .at) (l .sheet) (l .cells) e (b .before .loop-test .taken) (sym (b .read-part .ensures) ∙ c .before .before .e .given .1)) (c .stopped .ensures) (l .inv .1 .parts) (not-accepted e (l .sheet) (length (l .cells)))
 
--- src/rt:423:30
 enum-known-part : tie.Need-enum-known-part Inv-loop μ-loop
 enum-known-part c = search needs
 
--- src/rt:424:21
 insert-requires : tie.Need-insert-requires Inv-loop μ-loop
 insert-requires c κs = search needs
 
--- src/rt:427:41
 enum-known-outcome : tie.Need-enum-known-outcome Inv-loop μ-loop
 enum-known-outcome c = search needs
 
--- src/rt:428:21
 stopped-requires-2 : tie.Need-stopped-requires-2 Inv-loop μ-loop
 stopped-requires-2 c κs =
     let i = c .before .before .before .before .before .before in
@@ -93,13 +71,11 @@ stopped-requires-2 c κs =
     let r = refused-call _ (l .sheet) (l .cells) (i .insert .result) (i .insert .last .1 .1 .1 .0) (i .insert .ensures) _ (c .before .outcome .given .1) in
     rw (r .1) (l .inv .1 .parts)
 
--- src/rt:428:21
 same-length-2 : tie.Need-same-length-2 Inv-loop μ-loop
 same-length-2 c =
     let i = c .before .before .before .before .before .before .before in
     i .insert .kept .1 .1 .1 .0 ∙ i .before .before .before .before .before .before .before .loop .inv .0
 
--- src/rt:428:21
 returns-2 : tie.Need-returns-2 Inv-loop μ-loop
 returns-2 c =
     let i = c .before .before .before .before .before .before .before in
@@ -113,7 +89,6 @@ returns-2 c =
 enum-told : tie.Need-enum-told Inv-loop μ-loop
 enum-told c = search needs
 
--- src/rt:417:5
 loop-less : tie.Need-loop-less Inv-loop μ-loop
 loop-less c =
     let i = c .before .before .before .before .before in
@@ -121,7 +96,6 @@ loop-less c =
     let r = part-reach _ (l .at) _ _ (card-read i) in
     omega (arith, i .before .before .before .before .before .before .loop-test .taken, r)
 
--- src/rt:417:5
 loop-again : tie.Need-loop-again Inv-loop μ-loop
 loop-again c =
     let i = c .before .before .before .before .before in
@@ -135,17 +109,14 @@ loop-again c =
     let ran = l .inv .2 ∙ part-accepted (a .s .now) (l .at) (l .sheet) (l .cells) (p .0) (p .1 .0) (i .before .before .before .before .before .before .loop-test .taken) (card-read i) (r .0) in
     (k ∙ l .inv .0, subst (λ (z : Sheet). Sized z (length ys)) (sym (r .1)) sized, ran ∙ ap (λ (z : Sheet). allPartCards (a .s .now) (p .1 .0) z (cellsWith (l .sheet) (p .0) (l .cells))) (sym (r .1)) ∙ ap (λ (zs : List Float). allPartCards (a .s .now) (p .1 .0) (i .insert .result .sheet) zs) (sym (r .2)))
 
--- src/rt:435:5
 stopped-requires-3 : tie.Need-stopped-requires-3 Inv-loop μ-loop
 stopped-requires-3 c κs =
     c .before .loop .inv .1 .parts
 
--- src/rt:411:1
 same-length-3 : tie.Need-same-length-3 Inv-loop μ-loop
 same-length-3 c =
     c .before .before .loop .inv .0
 
--- src/rt:411:1
 returns-3 : tie.Need-returns-3 Inv-loop μ-loop
 returns-3 c =
     let l = c .before .before .loop in

@@ -1,41 +1,29 @@
 -- `cards::run_stream` meets its contract.
-use mathlib.Core.Path.{_≡_, refl, sym, ap, _∙_, subst}
+use mathlib.Core.Path.{sym, ap, _∙_, subst}
 use mathlib.Core.List.{List, []}
 use Prim.Native.Nat.{ℕ}
 use lib.ListN.{length}
 use lib.Ieee.{Float}
-use Rattle.aero_error.specs.declared.Check.the-variants.{Passed}
 use Rattle.drag_sheet.specs.declared.Outcome.the-variants.{Refused}
 use Rattle.drag_sheet.specs.declared.Sheet.{Sheet}
 use Rattle.drag_sheet.specs.Layout.{written}
 use Rattle.drag_sheet.specs.Build.{build}
 use Rattle.drag_sheet.specs.Calls.{opened, emptySlots, madeCells}
-use Rattle.cards.specs.declared.Run.{Run}
 use Rattle.cards.specs.Run.{Ran, Sized, Stopped, stoppedAt, allPartCards}
 use Rattle.cards.proofs.Stream.{refused-open, accepted-open, stream-unread, stream-unopened, stream-opened, stopped-first, sized-open}
 use borrow.Author.Needs.{needs}
 use Rattle.cards.proofs.run_stream.Statement.{statement}
 use Rattle.cards.proofs.run_stream.Tie as tie
-use Rattle.cards.proofs.run_stream.Reads as reads
-use Rattle.cards.proofs.run_stream.Lts as lts
-use Rattle.cards.proofs.blank.Reads as blank-reads
-use Rattle.cards.proofs.read_settings.Reads as read-settings-reads
-use Rattle.cards.proofs.run_parts.Reads as run-parts-reads
-use Rattle.drag_sheet.proofs.open.Reads as open-reads
 
--- src/rt:463:9
 read-settings-requires : tie.Need-read-settings-requires
 read-settings-requires c κs = search needs
 
--- src/rt:467:29
 enum-known-first : tie.Need-enum-known-first
 enum-known-first c = search needs
 
--- src/rt:471:20
 blank-requires : tie.Need-blank-requires
 blank-requires c κs = search needs
 
--- src/rt:468:9
 returns : tie.Need-returns
 returns c =
     let b = c .before .before .before .before .before in
@@ -48,19 +36,15 @@ returns c =
 enum-told : tie.Need-enum-told
 enum-told c = search needs
 
--- src/rt:474:9
 open-requires : tie.Need-open-requires
 open-requires c κs = search needs
 
--- src/rt:477:29
 enum-known-outcome : tie.Need-enum-known-outcome
 enum-known-outcome c = search needs
 
--- src/rt:478:9
 same-length : tie.Need-same-length
 same-length c = search needs
 
--- src/rt:478:9
 returns-2 : tie.Need-returns-2
 returns-2 c =
     let o = c .before .before .before .before .before .before in
@@ -76,7 +60,6 @@ returns-2 c =
 enum-told-2 : tie.Need-enum-told-2
 enum-told-2 c = search needs
 
--- src/rt:484:5
 run-parts-requires : tie.Need-run-parts-requires
 run-parts-requires c κs =
     let o = c .before .before .before .before .before .before in
@@ -86,11 +69,9 @@ run-parts-requires c κs =
     let r = accepted-open (card .settings) emptySlots (a .cells .now) (o .«open» .result) (o .«open» .last .1 .0) (o .«open» .ensures) (c .before .enum-told2 .given .1) in
     subst (λ (z : Sheet). Sized z (length (o .«open» .last .1 .0))) (sym (r .1)) (subst (λ (n : ℕ). Sized (opened (card .settings) emptySlots) n) (sym (o .«open» .kept .1 .0)) (sized-open (card .settings) emptySlots (length (a .cells .now)) (r .0)))
 
--- src/rt:460:1
 same-length-2 : tie.Need-same-length-2
 same-length-2 c = search needs
 
--- src/rt:460:1
 returns-3 : tie.Need-returns-3
 returns-3 c =
     let o = c .before .before .before .before .before .before .before .before .before in

@@ -2,37 +2,29 @@
 use borrow.Author.Tests.{eq-eqb, ne-eqb}
 use Rattle.cards.proofs.shape_of.Statement.{statement}
 use Rattle.cards.proofs.shape_of.Tie as tie
-use Rattle.cards.proofs.shape_of.Reads as reads
-use Rattle.cards.proofs.shape_of.Lts as lts
 
--- src/rt:164:9
 returns : tie.Need-returns
 returns c =
     simp (eq-eqb _ _ (c .if1 .taken))
 
--- src/rt:167:9
 returns-2 : tie.Need-returns-2
 returns-2 c =
     simp (ne-eqb _ _ (c .before .if1 .left), eq-eqb _ _ (c .if2 .taken))
 
--- src/rt:170:9
 returns-3 : tie.Need-returns-3
 returns-3 c =
     simp (ne-eqb _ _ (c .before .before .if1 .left), ne-eqb _ _ (c .before .if2 .left), eq-eqb _ _ (c .if3 .taken))
 
--- src/rt:173:9
 returns-4 : tie.Need-returns-4
 returns-4 c =
     let b = c .before .before .before in
     simp (ne-eqb _ _ (b .if1 .left), ne-eqb _ _ (c .before .before .if2 .left), ne-eqb _ _ (c .before .if3 .left), eq-eqb _ _ (c .if4 .taken))
 
--- src/rt:176:9
 returns-5 : tie.Need-returns-5
 returns-5 c =
     let b = c .before .before .before in
     simp (ne-eqb _ _ (b .before .if1 .left), ne-eqb _ _ (b .if2 .left), ne-eqb _ _ (c .before .before .if3 .left), ne-eqb _ _ (c .before .if4 .left), eq-eqb _ _ (c .if5 .taken))
 
--- src/rt:160:1
 returns-6 : tie.Need-returns-6
 returns-6 c =
     let b = c .before .before .before in

@@ -2,20 +2,15 @@
 use borrow.Author.Tests.{eq-eqb, ne-eqb}
 use Rattle.cards.proofs.takes_parameter.Statement.{statement}
 use Rattle.cards.proofs.takes_parameter.Tie as tie
-use Rattle.cards.proofs.takes_parameter.Reads as reads
-use Rattle.cards.proofs.takes_parameter.Lts as lts
 
--- src/rt:185:9
 returns : tie.Need-returns
 returns c =
     simp (eq-eqb _ _ (c .if1 .taken))
 
--- src/rt:188:9
 returns-2 : tie.Need-returns-2
 returns-2 c =
     simp (ne-eqb _ _ (c .before .if1 .left), eq-eqb _ _ (c .if2 .taken))
 
--- src/rt:181:1
 returns-3 : tie.Need-returns-3
 returns-3 c =
     simp (ne-eqb _ _ (c .before .if1 .left), ne-eqb _ _ (c .if2 .left))

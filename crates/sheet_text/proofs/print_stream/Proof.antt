@@ -1,7 +1,6 @@
 -- `sheet_text::print_stream` meets its contract.
-use mathlib.Core.Path.{_≡_, sym, ap, _∙_}
+use mathlib.Core.Path.{_≡_, ap, _∙_}
 use mathlib.Core.List.{List}
-use native.Mathlib.Omega.{arith}
 use lib.Ieee.{Float}
 use lib.ListN.{replicate}
 use Rattle.elementary.specs.Constants.{0·0}
@@ -12,38 +11,27 @@ use Rattle.sheet_text.proofs.Puts.{printed-short, printed-long}
 use borrow.Author.Needs.{needs}
 use Rattle.sheet_text.proofs.print_stream.Statement.{statement}
 use Rattle.sheet_text.proofs.print_stream.Tie as tie
-use Rattle.sheet_text.proofs.print_stream.Reads as reads
-use Rattle.sheet_text.proofs.print_stream.Lts as lts
-use Rattle.cards.proofs.run_stream.Reads as run-stream-reads
-use Rattle.sheet_text.proofs.put_run.Reads as put-run-reads
 
--- src/rt:206:9
 returns : tie.Need-returns
 returns c =
     let a = c .before .before .before .args in
     printed-short (a .s .now) (a .out .now) (c .if1 .taken)
 
--- src/rt:209:36
 slice-aggregate-run-stream : tie.Need-slice-aggregate-run-stream
 slice-aggregate-run-stream c = search needs
 
--- src/rt:209:9
 run-stream-requires : tie.Need-run-stream-requires
 run-stream-requires c κs = search needs
 
--- src/rt:210:18
 slice-aggregate-put-run : tie.Need-slice-aggregate-put-run
 slice-aggregate-put-run c = search needs
 
--- src/rt:210:5
 put-run-requires : tie.Need-put-run-requires
 put-run-requires c κs = search needs
 
--- src/rt:202:1
 same-length : tie.Need-same-length
 same-length c = search needs
 
--- src/rt:202:1
 returns-2 : tie.Need-returns-2
 unfolding answerText
 returns-2 c =

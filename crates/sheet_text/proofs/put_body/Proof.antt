@@ -9,51 +9,37 @@ use Rattle.sheet_text.proofs.Puts.{put-then}
 use borrow.Author.Needs.{needs}
 use Rattle.sheet_text.proofs.put_body.Statement.{statement}
 use Rattle.sheet_text.proofs.put_body.Tie as tie
-use Rattle.sheet_text.proofs.put_body.Reads as reads
-use Rattle.sheet_text.proofs.put_body.Lts as lts
-use Rattle.sheet_text.proofs.put_row.Reads as put-row-reads
 
--- src/rt:155:28
 slice-aggregate-put-row : tie.Need-slice-aggregate-put-row
 slice-aggregate-put-row c = search needs
 
--- src/rt:155:41
 mul-put-row : tie.Need-mul-put-row
 mul-put-row c = search needs
 
--- src/rt:155:9
 put-row-requires : tie.Need-put-row-requires
 put-row-requires c κs = search needs
 
--- src/rt:156:24
 slice-aggregate-put-row-2 : tie.Need-slice-aggregate-put-row-2
 slice-aggregate-put-row-2 c = search needs
 
--- src/rt:156:33
 mul-put-row-2 : tie.Need-mul-put-row-2
 mul-put-row-2 c = search needs
 
--- src/rt:156:9
 put-row-requires-2 : tie.Need-put-row-requires-2
 put-row-requires-2 c κs = search needs
 
--- src/rt:157:13
 slice-aggregate-put-row-3 : tie.Need-slice-aggregate-put-row-3
 slice-aggregate-put-row-3 c = search needs
 
--- src/rt:157:23
 mul-put-row-3 : tie.Need-mul-put-row-3
 mul-put-row-3 c = search needs
 
--- src/rt:157:5
 put-row-requires-3 : tie.Need-put-row-requires-3
 put-row-requires-3 c κs = search needs
 
--- src/rt:151:1
 same-length : tie.Need-same-length
 same-length c = search needs
 
--- src/rt:151:1
 returns : tie.Need-returns
 unfolding bodyText
 returns c =

@@ -1,7 +1,6 @@
 -- `sheet_text::put_hex` meets its contract: with n digits still to put, the lowest first, the buffer comes to the same.
 use mathlib.Core.Path.{_≡_, refl, sym, ap, _∙_}
-use mathlib.Core.List.{List}
-use Prim.Native.Nat.{ℕ, _+_, _-_, _≤_, _%_, _/_}
+use Prim.Native.Nat.{ℕ, _+_, _-_, _≤_, _/_}
 use native.Mathlib.Omega.{arith}
 use lib.ListN.{length, set, length-set}
 use lib.Seq.{sets}
@@ -9,9 +8,6 @@ use Rattle.sheet_text.specs.Bytes.{hexDigits}
 use Rattle.sheet_text.proofs.Puts.{hex-long, hex-step}
 use Rattle.sheet_text.proofs.put_hex.Statement.{statement}
 use Rattle.sheet_text.proofs.put_hex.Tie as tie
-use Rattle.sheet_text.proofs.put_hex.Reads as reads
-use Rattle.sheet_text.proofs.put_hex.Lts as lts
-use Rattle.sheet_text.proofs.hex_digit.Reads as hex-digit-reads
 
 abbrev Inv-loop : tie.InvT-loop
 Inv-loop x out₀ at rest₀ n₀ out rest n =
@@ -20,37 +16,30 @@ Inv-loop x out₀ at rest₀ n₀ out rest n =
 abbrev μ-loop : tie.MeasureT-loop
 μ-loop x out₀ at rest₀ n₀ out rest n = n
 
--- src/rt:35:5
 loop-holds : tie.Need-loop-holds Inv-loop μ-loop
 loop-holds c =
     (omega arith, refl, refl)
 
--- src/rt:36:9
 sub-n : tie.Need-sub-n Inv-loop μ-loop
 sub-n c =
     omega arith
 
--- src/rt:37:23
 hex-digit-requires : tie.Need-hex-digit-requires Inv-loop μ-loop
 hex-digit-requires c κs =
     omega arith
 
--- src/rt:37:13
 add-out : tie.Need-add-out Inv-loop μ-loop
 add-out c =
     omega arith
 
--- src/rt:37:9
 slice-write-out : tie.Need-slice-write-out Inv-loop μ-loop
 slice-write-out c =
     omega arith
 
--- src/rt:35:5
 loop-less : tie.Need-loop-less Inv-loop μ-loop
 loop-less c =
     omega arith
 
--- src/rt:35:5
 loop-again : tie.Need-loop-again Inv-loop μ-loop
 loop-again c =
     let l = c .before .before .loop in
@@ -58,17 +47,14 @@ loop-again c =
     let d = c .hex-digit .result in
     (omega arith, length-set (l .out) (a .at + (l .n - 1)) d ∙ l .inv .1, l .inv .2 ∙ hex-step (l .n) (l .rest) (a .at) (l .out) (omega arith) ∙ ap (λ (v : ℕ). sets (set (l .out) (a .at + (l .n - 1)) v) (a .at) (hexDigits (l .n - 1) (l .rest / 16))) (sym (c .hex-digit .ensures)))
 
--- src/rt:40:5
 add-result : tie.Need-add-result Inv-loop μ-loop
 add-result c =
     omega arith
 
--- src/rt:29:1
 same-length : tie.Need-same-length Inv-loop μ-loop
 same-length c =
     c .before .loop .inv .1
 
--- src/rt:29:1
 returns : tie.Need-returns Inv-loop μ-loop
 unfolding hexDigits
 returns c =

@@ -5,21 +5,13 @@ use Rattle.sheet_text.proofs.Puts.{put-then, numbers-long}
 use borrow.Author.Needs.{needs}
 use Rattle.sheet_text.proofs.put_line.Statement.{statement}
 use Rattle.sheet_text.proofs.put_line.Tie as tie
-use Rattle.sheet_text.proofs.put_line.Reads as reads
-use Rattle.sheet_text.proofs.put_line.Lts as lts
-use Rattle.sheet_text.proofs.put_line_feed.Reads as put-line-feed-reads
-use Rattle.sheet_text.proofs.put_name.Reads as put-name-reads
-use Rattle.sheet_text.proofs.put_numbers.Reads as put-numbers-reads
 
--- src/rt:108:9
 put-name-requires : tie.Need-put-name-requires
 put-name-requires c κs = search needs
 
--- src/rt:109:9
 put-numbers-requires : tie.Need-put-numbers-requires
 put-numbers-requires c κs = search needs
 
--- src/rt:110:5
 put-line-feed-requires : tie.Need-put-line-feed-requires
 put-line-feed-requires c κs =
     let n = c .before .before .before .put-numbers in
@@ -28,11 +20,9 @@ put-line-feed-requires c κs =
     let h = numbers-long (a .row .now) in
     omega (arith, h, n .ensures .place, m .ensures .place, n .kept .1 .0, m .kept .1 .0)
 
--- src/rt:104:1
 same-length : tie.Need-same-length
 same-length c = search needs
 
--- src/rt:104:1
 returns : tie.Need-returns
 unfolding lineText
 returns c =

@@ -1,15 +1,12 @@
 -- `sheet_text::put_name` meets its contract.
-use lib.ListN.{getD}
-use mathlib.Core.Path.{_≡_, refl, sym, ap, _∙_}
+use lib.ListN.{getD, length, drop, length-set}
+use mathlib.Core.Path.{_≡_, refl, sym, _∙_}
 use Prim.Native.Nat.{_+_, _-_, _≤_}
 use native.Mathlib.Omega.{arith}
-use lib.ListN.{length, drop, length-set}
 use lib.Seq.{sets}
 use Rattle.sheet_text.proofs.Puts.{name-step, name-end}
 use Rattle.sheet_text.proofs.put_name.Statement.{statement}
 use Rattle.sheet_text.proofs.put_name.Tie as tie
-use Rattle.sheet_text.proofs.put_name.Reads as reads
-use Rattle.sheet_text.proofs.put_name.Lts as lts
 
 abbrev Inv-loop : tie.InvT-loop
 Inv-loop name out₀ start at₀ i₀ out at i =
@@ -18,49 +15,40 @@ Inv-loop name out₀ start at₀ i₀ out at i =
 abbrev μ-loop : tie.MeasureT-loop
 μ-loop name out₀ start at₀ i₀ out at i = length name - i
 
--- src/rt:63:5
 loop-holds : tie.Need-loop-holds Inv-loop μ-loop
 loop-holds c =
     (omega arith, omega arith, refl, refl)
 
--- src/rt:64:19
 shared-slice-read-out : tie.Need-shared-slice-read-out Inv-loop μ-loop
 shared-slice-read-out c =
     omega arith
 
--- src/rt:64:9
 slice-write-out : tie.Need-slice-write-out Inv-loop μ-loop
 slice-write-out c =
     omega arith
 
--- src/rt:65:9
 add-at : tie.Need-add-at Inv-loop μ-loop
 add-at c =
     omega arith
 
--- src/rt:66:9
 add-i : tie.Need-add-i Inv-loop μ-loop
 add-i c =
     omega arith
 
--- src/rt:63:5
 loop-less : tie.Need-loop-less Inv-loop μ-loop
 loop-less c =
     omega arith
 
--- src/rt:63:5
 loop-again : tie.Need-loop-again Inv-loop μ-loop
 loop-again c =
     let l = c .before .before .loop in
     let a = c .before .before .before .args in
     (omega arith, omega arith, length-set (l .out) (l .at) (getD (a .name .now) (l .i) 0) ∙ l .inv .2, l .inv .3 ∙ name-step (a .name .now) (l .out) (l .at) (l .i) (omega arith))
 
--- src/rt:57:1
 same-length : tie.Need-same-length Inv-loop μ-loop
 same-length c =
     c .before .loop .inv .2
 
--- src/rt:57:1
 returns : tie.Need-returns Inv-loop μ-loop
 returns c =
     let l = c .before .loop in

@@ -1,40 +1,30 @@
 -- `sheet_text::put_number` meets its contract.
-use mathlib.Core.Path.{_≡_, refl, sym, ap, _∙_}
+use mathlib.Core.Path.{_∙_}
 use native.Mathlib.Omega.{arith}
 use lib.ListN.{length-set}
 use Rattle.sheet_text.proofs.Puts.{number-put}
 use borrow.Author.Needs.{needs}
 use Rattle.sheet_text.proofs.put_number.Statement.{statement}
 use Rattle.sheet_text.proofs.put_number.Tie as tie
-use Rattle.sheet_text.proofs.put_number.Reads as reads
-use Rattle.sheet_text.proofs.put_number.Lts as lts
-use Rattle.elementary.proofs.to_bits.Reads as to-bits-reads
-use Rattle.sheet_text.proofs.put_hex.Reads as put-hex-reads
 
--- src/rt:86:5
 slice-write-out : tie.Need-slice-write-out
 slice-write-out c = search needs
 
--- src/rt:87:13
 to-bits-requires : tie.Need-to-bits-requires
 to-bits-requires c κs = search needs
 
--- src/rt:87:42
 add-put-hex : tie.Need-add-put-hex
 add-put-hex c = search needs
 
--- src/rt:87:5
 put-hex-requires : tie.Need-put-hex-requires
 put-hex-requires c κs =
     simp length-set (omega arith)
 
--- src/rt:82:1
 same-length : tie.Need-same-length
 same-length c =
     let a = c .before .before .before .before .before .before .args in
     c .before .before .put-hex .kept .1 .0 ∙ length-set (a .out .now) (a .at) 32
 
--- src/rt:82:1
 returns : tie.Need-returns
 returns c =
     let b = c .before .before in

@@ -1,19 +1,15 @@
 -- `sheet_text::put_numbers` meets its contract.
 use lib.Ieee.{nan}
-use lib.ListN.{getD}
+use lib.ListN.{getD, length, drop}
 use mathlib.Core.Path.{_≡_, refl, sym, ap, _∙_}
 use mathlib.Core.List.{List}
 use Prim.Native.Nat.{ℕ, _+_, _-_, _*_, _≤_}
 use native.Mathlib.Omega.{arith}
-use lib.ListN.{length, drop, length-set}
 use lib.Seq.{sets}
 use Rattle.sheet_text.specs.Text.{numbersText, numberText}
 use Rattle.sheet_text.proofs.Puts.{numbers-step, numbers-end, numbers-long, number-long}
 use Rattle.sheet_text.proofs.put_numbers.Statement.{statement}
 use Rattle.sheet_text.proofs.put_numbers.Tie as tie
-use Rattle.sheet_text.proofs.put_numbers.Reads as reads
-use Rattle.sheet_text.proofs.put_numbers.Lts as lts
-use Rattle.sheet_text.proofs.put_number.Reads as put-number-reads
 
 abbrev Inv-loop : tie.InvT-loop
 Inv-loop row out₀ start at₀ i₀ out at i =
@@ -22,37 +18,30 @@ Inv-loop row out₀ start at₀ i₀ out at i =
 abbrev μ-loop : tie.MeasureT-loop
 μ-loop row out₀ start at₀ i₀ out at i = length row - i
 
--- src/rt:96:5
 loop-holds : tie.Need-loop-holds Inv-loop μ-loop
 loop-holds c =
     (omega arith, omega arith, refl, refl)
 
--- src/rt:97:25
 mul-put-number : tie.Need-mul-put-number Inv-loop μ-loop
 mul-put-number c =
     omega arith
 
--- src/rt:97:25
 shared-slice-read-put-number : tie.Need-shared-slice-read-put-number Inv-loop μ-loop
 shared-slice-read-put-number c =
     omega arith
 
--- src/rt:97:9
 put-number-requires : tie.Need-put-number-requires Inv-loop μ-loop
 put-number-requires c κs =
     omega arith
 
--- src/rt:98:9
 add-i : tie.Need-add-i Inv-loop μ-loop
 add-i c =
     omega arith
 
--- src/rt:96:5
 loop-less : tie.Need-loop-less Inv-loop μ-loop
 loop-less c =
     omega arith
 
--- src/rt:96:5
 loop-again : tie.Need-loop-again Inv-loop μ-loop
 loop-again c =
     let p = c .before .before .put-number in
@@ -64,12 +53,10 @@ loop-again c =
     let e = l .inv .3 ∙ numbers-step (a .row .now) (l .out) (l .at) (l .i) nan (omega arith) in
     (omega arith, omega arith, p .kept .1 .0 ∙ l .inv .2, e ∙ ap (λ (n : ℕ). sets (sets (l .out) (l .at) (numberText x)) n left) (sym k) ∙ ap (λ (ys : List ℕ). sets ys (p .result) left) (sym (p .ensures .bytes)))
 
--- src/rt:90:1
 same-length : tie.Need-same-length Inv-loop μ-loop
 same-length c =
     c .before .loop .inv .2
 
--- src/rt:90:1
 returns : tie.Need-returns Inv-loop μ-loop
 returns c =
     let l = c .before .loop in

@@ -6,26 +6,16 @@ use Rattle.sheet_text.proofs.Puts.{put-then, numbers-long, decimal-long
 use borrow.Author.Needs.{needs}
 use Rattle.sheet_text.proofs.put_part.Statement.{statement}
 use Rattle.sheet_text.proofs.put_part.Tie as tie
-use Rattle.sheet_text.proofs.put_part.Reads as reads
-use Rattle.sheet_text.proofs.put_part.Lts as lts
-use Rattle.sheet_text.proofs.put_decimal.Reads as put-decimal-reads
-use Rattle.sheet_text.proofs.put_line_feed.Reads as put-line-feed-reads
-use Rattle.sheet_text.proofs.put_name.Reads as put-name-reads
-use Rattle.sheet_text.proofs.put_numbers.Reads as put-numbers-reads
 
--- src/rt:118:26
 slice-aggregate-put-name : tie.Need-slice-aggregate-put-name
 slice-aggregate-put-name c = search needs
 
--- src/rt:118:9
 put-name-requires : tie.Need-put-name-requires
 put-name-requires c κs = search needs
 
--- src/rt:119:9
 put-decimal-requires : tie.Need-put-decimal-requires
 put-decimal-requires c κs = search needs
 
--- src/rt:120:9
 put-numbers-requires : tie.Need-put-numbers-requires
 put-numbers-requires c κs =
     let d = c .before .before .before .put-decimal in
@@ -35,7 +25,6 @@ put-numbers-requires c κs =
     let h = decimal-long (a .place) in
     omega (arith, h, d .ensures .place, m .ensures .place, d .kept .1 .0, m .kept .1 .0)
 
--- src/rt:121:5
 put-line-feed-requires : tie.Need-put-line-feed-requires
 put-line-feed-requires c κs =
     let n = c .before .before .before .put-numbers in
@@ -47,11 +36,9 @@ put-line-feed-requires c κs =
     let k = numbers-long (a .row .now) in
     omega (arith, h, k, n .ensures .place, n .kept .1 .0, d .ensures .place, m .ensures .place, d .kept .1 .0, m .kept .1 .0)
 
--- src/rt:114:1
 same-length : tie.Need-same-length
 same-length c = search needs
 
--- src/rt:114:1
 returns : tie.Need-returns
 unfolding lineText
 returns c =

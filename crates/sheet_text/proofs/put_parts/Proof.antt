@@ -2,7 +2,6 @@
 use native.Mathlib.Nat.{suc-mul}
 use native.Mathlib.Numerals.{add-one}
 use Rattle.sheet_text.specs.Bytes.{Put}
-use borrow.Author.Needs.{needs}
 use mathlib.Core.Path.{_≡_, refl, sym, ap, _∙_, subst}
 use mathlib.Core.List.{List}
 use Prim.Native.Nat.{ℕ, _+_, _-_, _*_, _≤_, _<_}
@@ -14,9 +13,6 @@ use Rattle.sheet_text.specs.Text.{partLines, lineText, partName}
 use Rattle.sheet_text.proofs.Puts.{lent-row, row-long, row-fits, part-long, parts-step, parts-length}
 use Rattle.sheet_text.proofs.put_parts.Statement.{statement}
 use Rattle.sheet_text.proofs.put_parts.Tie as tie
-use Rattle.sheet_text.proofs.put_parts.Reads as reads
-use Rattle.sheet_text.proofs.put_parts.Lts as lts
-use Rattle.sheet_text.proofs.put_part.Reads as put-part-reads
 
 -- with the lines from a place on still to put, the buffer and the end of the text come to the same
 pub record Left (count columns : ℕ) (cells : List Float) (out₀ : List ℕ) (start : ℕ) (out : List ℕ) (at from place : ℕ) : Type 0 where
@@ -43,39 +39,32 @@ fits c =
     let e = l .inv .row in
     (omega (arith, k, e, c .before .before .before .before .pre), h)
 
--- src/rt:132:5
 loop-holds : tie.Need-loop-holds Inv-loop μ-loop
 loop-holds c =
     let a = c .before .before .args in
     let e : a .count ≡ a .count - 0 = omega arith in
     record { within = omega arith; row = omega arith; bound = omega arith; same = refl; bytes = ap (λ (k : ℕ). sets (a .out .now) (a .start) (partLines k 0 (a .columns) (a .cells .now))) e; end = ap (λ (k : ℕ). a .start + length (partLines k 0 (a .columns) (a .cells .now))) e }
 
--- src/rt:133:19
 add-end : tie.Need-add-end Inv-loop μ-loop
 add-end c =
     let h = fits c in omega (arith, h)
 
--- src/rt:134:30
 mul-put-part : tie.Need-mul-put-part Inv-loop μ-loop
 mul-put-part c =
     let h = fits c in omega (arith, h)
 
--- src/rt:134:30
 sub-put-part : tie.Need-sub-put-part Inv-loop μ-loop
 sub-put-part c =
     let h = fits c in omega (arith, h)
 
--- src/rt:134:30
 part-put-part-start : tie.Need-part-put-part-start Inv-loop μ-loop
 part-put-part-start c =
     let h = fits c in omega (arith, h)
 
--- src/rt:134:30
 part-put-part-end : tie.Need-part-put-part-end Inv-loop μ-loop
 part-put-part-end c =
     let h = fits c in omega (arith, h)
 
--- src/rt:134:9
 put-part-requires : tie.Need-put-part-requires Inv-loop μ-loop
 put-part-requires c κs =
     let i = c .before .before in
@@ -85,17 +74,14 @@ put-part-requires c κs =
     let e = ap length (lent-row (l .from) (a .columns) (a .cells .now)) ∙ row-long (l .from) (a .columns) (a .cells .now) (h .0) in
     omega (arith, h, e, l .inv .bound, l .inv .same, i .loop-test .taken, i .before .before .before .before .pre)
 
--- src/rt:136:9
 add-place : tie.Need-add-place Inv-loop μ-loop
 add-place c =
     omega arith
 
--- src/rt:132:5
 loop-less : tie.Need-loop-less Inv-loop μ-loop
 loop-less c =
     omega arith
 
--- src/rt:132:5
 loop-again : tie.Need-loop-again Inv-loop μ-loop
 loop-again c =
     let p = c .before .before .put-part in
@@ -125,12 +111,10 @@ loop-again c =
       end = let s = parts-length n (l .place) C (l .from) (a .cells .now) pos in let t = ap length move in omega (arith, s, t, l .inv .end, q .place);
     }
 
--- src/rt:125:1
 same-length : tie.Need-same-length Inv-loop μ-loop
 same-length c =
     c .before .loop .inv .same
 
--- src/rt:125:1
 returns : tie.Need-returns Inv-loop μ-loop
 unfolding partLines
 returns c =

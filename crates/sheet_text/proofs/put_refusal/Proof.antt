@@ -6,29 +6,19 @@ use Rattle.sheet_text.proofs.Puts.{put-then, decimal-long}
 use borrow.Author.Needs.{needs}
 use Rattle.sheet_text.proofs.put_refusal.Statement.{statement}
 use Rattle.sheet_text.proofs.put_refusal.Tie as tie
-use Rattle.sheet_text.proofs.put_refusal.Reads as reads
-use Rattle.sheet_text.proofs.put_refusal.Lts as lts
-use Rattle.sheet_text.proofs.put_decimal.Reads as put-decimal-reads
-use Rattle.sheet_text.proofs.put_line_feed.Reads as put-line-feed-reads
-use Rattle.sheet_text.proofs.put_name.Reads as put-name-reads
 
--- src/rt:180:28
 slice-aggregate-put-name : tie.Need-slice-aggregate-put-name
 slice-aggregate-put-name c = search needs
 
--- src/rt:180:9
 put-name-requires : tie.Need-put-name-requires
 put-name-requires c κs = search needs
 
--- src/rt:181:9
 put-decimal-requires : tie.Need-put-decimal-requires
 put-decimal-requires c κs = search needs
 
--- src/rt:182:27
 slice-aggregate-put-name-2 : tie.Need-slice-aggregate-put-name-2
 slice-aggregate-put-name-2 c = search needs
 
--- src/rt:182:9
 put-name-requires-2 : tie.Need-put-name-requires-2
 put-name-requires-2 c κs =
     let d = c .before .before .before .before in
@@ -37,7 +27,6 @@ put-name-requires-2 c κs =
     let h = decimal-long (a .number) in
     omega (arith, h, d .put-decimal .ensures .place, d .put-decimal .kept .1 .0, m .put-name .ensures .place, m .put-name .kept .1 .0)
 
--- src/rt:183:9
 put-decimal-requires-2 : tie.Need-put-decimal-requires-2
 put-decimal-requires-2 c κs =
     let n = c .before .before .before in
@@ -47,7 +36,6 @@ put-decimal-requires-2 c κs =
     let h = decimal-long (a .number) in
     omega (arith, h, n .put-name2 .ensures .place, n .put-name2 .kept .1 .0, d .put-decimal .ensures .place, d .put-decimal .kept .1 .0, m .put-name .ensures .place, m .put-name .kept .1 .0, m .before .before .before .before .pre)
 
--- src/rt:184:5
 put-line-feed-requires : tie.Need-put-line-feed-requires
 put-line-feed-requires c κs =
     let k = c .before .before .before in
@@ -59,11 +47,9 @@ put-line-feed-requires c κs =
     let i = decimal-long (a .card) in
     omega (arith, h, i, k .put-decimal2 .ensures .place, k .put-decimal2 .kept .1 .0, n .put-name2 .ensures .place, n .put-name2 .kept .1 .0, d .put-decimal .ensures .place, d .put-decimal .kept .1 .0, m .put-name .ensures .place, m .put-name .kept .1 .0, m .before .before .before .before .pre)
 
--- src/rt:176:1
 same-length : tie.Need-same-length
 same-length c = search needs
 
--- src/rt:176:1
 returns : tie.Need-returns
 unfolding refusedText
 returns c =

@@ -1,8 +1,8 @@
 -- `sheet_text::put_row` meets its contract.
-use mathlib.Core.Path.{_≡_, sym, ap, _∙_, subst}
+use mathlib.Core.Path.{subst}
 use mathlib.Core.List.{List}
 use native.Mathlib.Omega.{arith}
-use lib.ListN.{length, take, drop}
+use lib.ListN.{take, drop}
 use lib.Ieee.{Float}
 use Rattle.sheet_text.specs.Bytes.{Put}
 use Rattle.sheet_text.specs.Text.{lineText}
@@ -10,39 +10,28 @@ use Rattle.sheet_text.proofs.Puts.{lent-row, row-long, line-long}
 use borrow.Author.Needs.{needs}
 use Rattle.sheet_text.proofs.put_row.Statement.{statement}
 use Rattle.sheet_text.proofs.put_row.Tie as tie
-use Rattle.sheet_text.proofs.put_row.Reads as reads
-use Rattle.sheet_text.proofs.put_row.Lts as lts
-use Rattle.sheet_text.proofs.put_line.Reads as put-line-reads
 
--- src/rt:146:15
 add-end : tie.Need-add-end
 add-end c = search needs
 
--- src/rt:147:20
 mul-put-line : tie.Need-mul-put-line
 mul-put-line c = search needs
 
--- src/rt:147:20
 sub-put-line : tie.Need-sub-put-line
 sub-put-line c = search needs
 
--- src/rt:147:20
 part-put-line-start : tie.Need-part-put-line-start
 part-put-line-start c = search needs
 
--- src/rt:147:20
 part-put-line-end : tie.Need-part-put-line-end
 part-put-line-end c = search needs
 
--- src/rt:147:5
 put-line-requires : tie.Need-put-line-requires
 put-line-requires c κs = search needs
 
--- src/rt:142:1
 same-length : tie.Need-same-length
 same-length c = search needs
 
--- src/rt:142:1
 returns : tie.Need-returns
 returns c =
     let p = c .before .before .put-line in

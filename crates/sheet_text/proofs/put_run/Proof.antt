@@ -4,35 +4,24 @@ use Rattle.sheet_text.proofs.Puts.{number-small}
 use borrow.Author.Needs.{needs}
 use Rattle.sheet_text.proofs.put_run.Statement.{statement}
 use Rattle.sheet_text.proofs.put_run.Tie as tie
-use Rattle.sheet_text.proofs.put_run.Reads as reads
-use Rattle.sheet_text.proofs.put_run.Lts as lts
-use Rattle.aero_error.proofs.AeroError.number.Reads as number-reads
-use Rattle.sheet_text.proofs.put_refusal.Reads as put-refusal-reads
-use Rattle.sheet_text.proofs.put_sheet.Reads as put-sheet-reads
 
--- src/rt:195:54
 enum-told : tie.Need-enum-told
 enum-told c = search needs
 
--- src/rt:195:30
 put-sheet-requires : tie.Need-put-sheet-requires
 put-sheet-requires c κs =
     let s = c .before .before .before .before .before .before in
     (s .pre .1 (c .before .enum-told .given .1), s .pre .2)
 
--- src/rt:196:26
 enum-known-outcome : tie.Need-enum-known-outcome
 enum-known-outcome c = search needs
 
--- src/rt:196:44
 number-requires : tie.Need-number-requires
 number-requires c κs = search needs
 
--- src/rt:196:44
 cast-put-refusal : tie.Need-cast-put-refusal
 cast-put-refusal c = search needs
 
--- src/rt:196:32
 put-refusal-requires : tie.Need-put-refusal-requires
 put-refusal-requires c κs =
     let n = c .before in
@@ -40,20 +29,16 @@ put-refusal-requires c κs =
     let h = number-small (n .before .before .outcome .given .0 .0) in
     omega (arith, h, n .number .ensures, s .pre .0, s .pre .2)
 
--- src/rt:188:1
 same-length : tie.Need-same-length
 same-length c = search needs
 
--- src/rt:188:1
 returns : tie.Need-returns
 returns c =
     rw (c .before .before .before .before .enum-told .given .1) (c .before .before .put-sheet .ensures)
 
--- src/rt:188:1
 same-length-2 : tie.Need-same-length-2
 same-length-2 c = search needs
 
--- src/rt:188:1
 returns-2 : tie.Need-returns-2
 returns-2 c =
     let n = c .before .before .before .before in

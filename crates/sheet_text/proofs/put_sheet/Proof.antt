@@ -1,7 +1,7 @@
 -- `sheet_text::put_sheet` meets its contract.
 use mathlib.Core.Path.{_≡_, sym}
 use native.Mathlib.Omega.{arith}
-use lib.ListN.{length, take, length-map}
+use lib.ListN.{length, length-map}
 use lib.Seq.{length-take-le}
 use Rattle.drag_sheet.specs.Build.{machsOf}
 use Rattle.sheet_text.specs.Text.{sheetText, lineText, partLines, bodyText, mach-name}
@@ -9,11 +9,6 @@ use Rattle.sheet_text.proofs.Puts.{put-then, line-long}
 use borrow.Author.Needs.{needs}
 use Rattle.sheet_text.proofs.put_sheet.Statement.{statement}
 use Rattle.sheet_text.proofs.put_sheet.Tie as tie
-use Rattle.sheet_text.proofs.put_sheet.Reads as reads
-use Rattle.sheet_text.proofs.put_sheet.Lts as lts
-use Rattle.sheet_text.proofs.put_body.Reads as put-body-reads
-use Rattle.sheet_text.proofs.put_line.Reads as put-line-reads
-use Rattle.sheet_text.proofs.put_parts.Reads as put-parts-reads
 
 -- the array of the settings holds 32 Machs, so there are as many as columns
 long : (s : tie.Start) → length (s .args .sheet .settings .machs) ≡ 32
@@ -22,28 +17,23 @@ long s = simp length-map at (s .good .0 .1 .1 .0 .1 .1 .1 .1 .1 .1 .0 .1 .0 .1)
 machs-long : (s : tie.Start) → length (machsOf (s .args .sheet .settings)) ≡ s .args .sheet .settings .count
 machs-long s = let h = long s in let k = s .pre .0 .columns in length-take-le _ _ (omega (arith, h, k))
 
--- src/rt:170:25
 slice-aggregate-put-line : tie.Need-slice-aggregate-put-line
 slice-aggregate-put-line c = search needs
 
--- src/rt:170:34
 array-share-prefix-machs : tie.Need-array-share-prefix-machs
 array-share-prefix-machs c =
     let s = c .before .before .before .before .before .before in
     let h = long s in let k = s .pre .0 .columns in omega (arith, h, k)
 
--- src/rt:170:34
 slice-aggregate-put-line-2 : tie.Need-slice-aggregate-put-line-2
 slice-aggregate-put-line-2 c =
     sym (machs-long (c .before .before .before .before .before .before .before))
 
--- src/rt:170:9
 put-line-requires : tie.Need-put-line-requires
 put-line-requires c κs =
     let s = c .before .before .before .before .before .before .before .before in
     let h = machs-long s in let k = s .pre .0 .columns in omega (arith, h, k, s .pre .1)
 
--- src/rt:171:9
 put-parts-requires : tie.Need-put-parts-requires
 put-parts-requires c κs =
     let p = c .before .before .before .put-line in
@@ -52,7 +42,6 @@ put-parts-requires c κs =
     let e = line-long mach-name (machsOf (s .args .sheet .settings)) in
     omega (arith, h, e, p .ensures .place, p .kept .1 .1 .0, s .pre .1, s .pre .0 .columns, s .pre .0 .parts, s .pre .0 .cells)
 
--- src/rt:172:5
 put-body-requires : tie.Need-put-body-requires
 put-body-requires c κs =
     let q = c .before .before .before .put-parts in
@@ -63,11 +52,9 @@ put-body-requires c κs =
     let e = line-long mach-name (machsOf (s .args .sheet .settings)) in
     omega (arith, h, e, p .ensures .place, p .kept .1 .1 .0, q .ensures .1, q .kept .1 .1 .1 .0, s .pre .1, s .pre .0 .columns, s .pre .0 .parts, s .pre .0 .cells)
 
--- src/rt:161:1
 same-length : tie.Need-same-length
 same-length c = search needs
 
--- src/rt:161:1
 returns : tie.Need-returns
 unfolding sheetText
 returns c =
