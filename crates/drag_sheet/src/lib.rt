@@ -22,6 +22,25 @@ use nose_drag::Curve;
 use nose_drag::PressureDragCurve;
 use shapes::NoseShape;
 
+// The rows of a sheet, in their order: one for each place of a design, then friction, base and
+// total. `specs/Layout` has the same for the definitions.
+const PARTS: usize = 16;
+
+const LAST_PLACE: usize = 15;
+
+const FRICTION_ROW: usize = 16;
+
+const BASE_ROW: usize = 17;
+
+const TOTAL_ROW: usize = 18;
+
+const ROWS: usize = 19;
+
+// The most columns that a sheet has, and the cells of so many.
+const COLUMNS: usize = 32;
+
+const CELLS: usize = 608;
+
 // The reference diameter D, the roughness, the body fineness B, and `count` columns of a Mach and
 // a Reynolds number; what stands past `count` in the two arrays is not looked at.
 pub struct Settings {
@@ -29,8 +48,8 @@ pub struct Settings {
     pub roughness: f64,
     pub body_fineness: f64,
     pub count: usize,
-    pub machs: [f64; 32],
-    pub reynolds: [f64; 32],
+    pub machs: [f64; COLUMNS],
+    pub reynolds: [f64; COLUMNS],
 }
 
 // A part: its shape, length L, aft diameter d, joint angle and wetted ratio w.
@@ -45,7 +64,7 @@ pub struct Part {
 // `count` parts in places 0, 1, ..; what stands past them in the array is not looked at.
 pub struct Design {
     pub count: usize,
-    pub parts: [Part; 16],
+    pub parts: [Part; PARTS],
 }
 
 // What a call came to.
@@ -285,7 +304,7 @@ fn add_rows(count: usize, cells: &[f64], sum: &mut [f64])
     ensures { λ _. ⌜ now (sum .exit) ≡ totalRow count (rows summed-rows count (now (cells .entry))) ⌝ }
 {
     let mut at = 0usize;
-    for row in 0usize..18 {
+    for row in 0usize..TOTAL_ROW {
         let next = at + count;
         add_row(sum, &cells[at..next]);
         at = next;
@@ -338,8 +357,8 @@ fn write_total(count: usize, cells: &mut [f64])
     requires { ⌜ (count ≤ 32) × (all-rows * count ≤ length (now cells)) ⌝ }
     ensures { λ _. ⌜ now (cells .exit) ≡ written (summed-rows * count) (totalRow count (rows summed-rows count (take (summed-rows * count) (now (cells .entry))))) (now (cells .entry)) ⌝ }
 {
-    let mut sum = [0.0; 32];
-    let at = 18 * count;
+    let mut sum = [0.0; COLUMNS];
+    let at = TOTAL_ROW * count;
     let end = at + count;
     add_rows(count, &cells[..at], &mut sum[..count]);
     copy_row(&sum[..count], &mut cells[at..end]);
@@ -351,8 +370,13 @@ fn finish(settings: Settings, design: Design, cells: &mut [f64])
     ensures { λ _. ⌜ now (cells .exit) ≡ finished settings (partsOf design) (now (cells .entry)) ⌝ }
 {
     let count = settings.count;
-    write_body_row(friction_of(settings, design), settings, 16 * count, cells);
-    write_body_row(base_of(settings, design), settings, 17 * count, cells);
+    write_body_row(
+        friction_of(settings, design),
+        settings,
+        FRICTION_ROW * count,
+        cells,
+    );
+    write_body_row(base_of(settings, design), settings, BASE_ROW * count, cells);
     write_total(count, cells);
 }
 
@@ -500,14 +524,14 @@ fn check_settings(settings: Settings, lent: usize) -> Check
     ensures { λ r. ⌜ r ≡ settingsTest settings lent ⌝ }
 {
     let count = settings.count;
-    if 32 < count {
+    if COLUMNS < count {
         return Check::Failed(AeroError::TooManyColumns);
     }
     let check = then(check_body(settings), check_columns(settings));
     let Check::Passed = check else {
         return check;
     };
-    if lent < 19 * count {
+    if lent < ROWS * count {
         return Check::Failed(AeroError::TooFewCells);
     }
     Check::Passed
@@ -554,7 +578,7 @@ fn check_sheet(sheet: Sheet, lent: usize) -> Check
     let Check::Passed = check else {
         return check;
     };
-    if 16 < count {
+    if PARTS < count {
         return Check::Failed(AeroError::DesignFull);
     }
     check_parts(design)
@@ -563,14 +587,14 @@ fn check_sheet(sheet: Sheet, lent: usize) -> Check
 // ---- the parts of a design after an edit
 
 // The part goes to a place, and the parts from there on move up one; the last slot goes.
-fn inserted(parts: [Part; 16], place: usize, part: Part) -> [Part; 16]
+fn inserted(parts: [Part; PARTS], place: usize, part: Part) -> [Part; PARTS]
     requires { ⌜ place < 16 ⌝ }
     ensures { λ r. ⌜ r ≡ take part-rows (insertAt place part parts) ⌝ }
 {
     let mut out = parts;
     out[place] = part;
     let mut i = place + 1;
-    while i < 16 {
+    while i < PARTS {
         out[i] = parts[i - 1];
         i += 1;
     }
@@ -578,13 +602,13 @@ fn inserted(parts: [Part; 16], place: usize, part: Part) -> [Part; 16]
 }
 
 // The parts after a place move down one; the last slot stays.
-fn removed(parts: [Part; 16], place: usize) -> [Part; 16]
+fn removed(parts: [Part; PARTS], place: usize) -> [Part; PARTS]
     requires { ⌜ place < 16 ⌝ }
     ensures { λ r. ⌜ r ≡ removeAt place parts ++ drop (part-rows - 1) parts ⌝ }
 {
     let mut out = parts;
     let mut i = place;
-    while i < 15 {
+    while i < LAST_PLACE {
         out[i] = parts[i + 1];
         i += 1;
     }
@@ -607,9 +631,9 @@ fn write_all(settings: Settings, design: Design, cells: &mut [f64]) -> Outcome
     requires { ⌜ (settings .count ≤ 32) × (design .count ≤ 16) × (all-rows * settings .count ≤ length (now cells)) ⌝ }
     ensures { λ r. ⌜ Wrote (build settings (partsOf design)) r (now (cells .entry)) (now (cells .exit)) ⌝ }
 {
-    let mut scratch = [0.0; 608];
+    let mut scratch = [0.0; CELLS];
     let count = settings.count;
-    let all = 19 * count;
+    let all = ROWS * count;
     let outcome = build_rows(settings, design, &mut scratch[..all]);
     let Outcome::Accepted = outcome else {
         return outcome;
@@ -663,7 +687,7 @@ pub fn open(settings: Settings, cells: &mut [f64]) -> Answer
     };
     let design = Design {
         count: 0,
-        parts: [empty; 16],
+        parts: [empty; PARTS],
     };
     let sheet = Sheet { settings, design };
     let check = check_settings(settings, cells.len());
@@ -685,7 +709,10 @@ fn check_insert(sheet: Sheet, place: usize, part: Part, lent: usize) -> Check
         check_sheet(sheet, lent),
         then(
             unless(count < place, AeroError::NoSuchPlace),
-            then(unless(16 <= count, AeroError::DesignFull), check_part(part)),
+            then(
+                unless(PARTS <= count, AeroError::DesignFull),
+                check_part(part),
+            ),
         ),
     )
 }
@@ -768,8 +795,8 @@ fn one_column(settings: Settings, mach: f64, reynolds: f64) -> Settings
         roughness: settings.roughness,
         body_fineness: settings.body_fineness,
         count: 1,
-        machs: [mach; 32],
-        reynolds: [reynolds; 32],
+        machs: [mach; COLUMNS],
+        reynolds: [reynolds; COLUMNS],
     }
 }
 
@@ -803,7 +830,7 @@ pub fn set_column(
     }
     let settings = sheet.settings;
     let design = sheet.design;
-    let mut values = [0.0; 19];
+    let mut values = [0.0; ROWS];
     let outcome = build_rows(one_column(settings, mach, reynolds), design, &mut values);
     if let Outcome::Refused(e) = outcome {
         return Answer {
@@ -927,8 +954,8 @@ pub fn replace(sheet: Sheet, place: usize, part: Part, cells: &mut [f64]) -> Ans
     let old = sheet.design;
     let count = settings.count;
     let width = next_width(settings, old.count, place);
-    let mut own = [0.0; 32];
-    let mut next = [0.0; 32];
+    let mut own = [0.0; COLUMNS];
+    let mut next = [0.0; COLUMNS];
     let outcome = changed_rows(sheet, place, part, &mut own[..count], &mut next[..width]);
     if let Outcome::Refused(e) = outcome {
         return Answer {
