@@ -120,7 +120,7 @@ fn part_card(bytes: &mut Bytes) -> Result<Part, u8> {
     let joint_angle = bytes.float_if(stands(map, 4))?;
     let wetted_ratio = bytes.float_if(stands(map, 5))?;
     Ok(Part {
-        shape: shape_of(shape, parameter),
+        shape: shape_of(u64::from(shape), parameter),
         length,
         aft_diameter,
         joint_angle,
@@ -128,8 +128,9 @@ fn part_card(bytes: &mut Bytes) -> Result<Part, u8> {
     })
 }
 
-/// "0 conical, 1 ogive, 2 elliptical, 3 power, 4 parabolic, 5 Haack".
-fn shape_of(number: u8, parameter: f64) -> NoseShape {
+/// "0 conical, 1 ogive, 2 elliptical, 3 power, 4 parabolic, 5 Haack"; the parameter is not used for
+/// 0 and 2.
+pub fn shape_of(number: u64, parameter: f64) -> NoseShape {
     match number {
         0 => NoseShape::Conical {},
         1 => NoseShape::Ogive {
@@ -141,7 +142,7 @@ fn shape_of(number: u8, parameter: f64) -> NoseShape {
         },
         4 => NoseShape::ParabolicSeries { parameter },
         5 => NoseShape::Haack { parameter },
-        _ => unreachable!("shape bytes above 5 are refused"),
+        _ => unreachable!("there are six shapes"),
     }
 }
 

@@ -36,6 +36,7 @@
 //! The lookup is not asked at NaN: there the original stops with an index out of range, and its
 //! callers never do it.
 
+use compare::cards::shape_of;
 use compare::inputs::{around, down, specials, up, Random, MAX, NANS, TINY};
 use compare::list::List;
 use compare::original_fixed::*;
@@ -43,23 +44,6 @@ use compare::refusals::Answer;
 
 const HALF_PI: f64 = std::f64::consts::FRAC_PI_2;
 const THIRD: f64 = 1.0 / 3.0;
-
-/// The shape of this number; the parameter is not used for 0 and 2.
-fn shape(number: u64, parameter: f64) -> NoseShape {
-    match number {
-        0 => NoseShape::Conical {},
-        1 => NoseShape::Ogive {
-            radius_ratio: parameter,
-        },
-        2 => NoseShape::Elliptical {},
-        3 => NoseShape::PowerSeries {
-            exponent: parameter,
-        },
-        4 => NoseShape::ParabolicSeries { parameter },
-        5 => NoseShape::Haack { parameter },
-        _ => unreachable!(),
-    }
-}
 
 struct Answers {
     list: List,
@@ -78,7 +62,7 @@ impl Answers {
     }
 
     fn takes_cone(&mut self, number: u64, parameter: f64) {
-        let answer = takes_cone_formula(shape(number, parameter));
+        let answer = takes_cone_formula(shape_of(number, parameter));
         let args = [number, parameter.to_bits()];
         self.list
             .line('b', &args, Answer::accepted(u64::from(answer)));
@@ -115,7 +99,7 @@ impl Answers {
             fineness.to_bits(),
             angle.to_bits(),
         ];
-        let curve = PressureDragCurve::new(shape(number, parameter), fineness, angle);
+        let curve = PressureDragCurve::new(shape_of(number, parameter), fineness, angle);
         let rest = curve.clone().map(|c| c.rest_coefficient());
         self.list.line('l', &args, Answer::of(rest));
         if self.random.bits() % 3 == 0 {
@@ -133,7 +117,7 @@ impl Answers {
             angle.to_bits(),
             mach.to_bits(),
         ];
-        let answer = PressureDragCurve::new(shape(number, parameter), fineness, angle)
+        let answer = PressureDragCurve::new(shape_of(number, parameter), fineness, angle)
             .and_then(|c| c.coefficient(mach));
         self.list.line('n', &args, Answer::of(answer));
     }

@@ -35,6 +35,7 @@
 
 use std::io::{BufWriter, StdoutLock, Write};
 
+use compare::cards::shape_of;
 use compare::answer_bits;
 use compare::inputs::{specials, Random, NANS};
 use compare::model::{
@@ -49,22 +50,6 @@ const BUFFER: usize = 640;
 /// The state's number so far, and one word more.
 fn mixed(h: u64, x: u64) -> u64 {
     (h ^ x).rotate_left(23).wrapping_mul(0x100_0000_01b3)
-}
-
-fn shape_of(number: u64, parameter: f64) -> NoseShape {
-    match number {
-        0 => NoseShape::Conical {},
-        1 => NoseShape::Ogive {
-            radius_ratio: parameter,
-        },
-        2 => NoseShape::Elliptical {},
-        3 => NoseShape::PowerSeries {
-            exponent: parameter,
-        },
-        4 => NoseShape::ParabolicSeries { parameter },
-        5 => NoseShape::Haack { parameter },
-        _ => unreachable!(),
-    }
 }
 
 /// The shape's number and parameter.

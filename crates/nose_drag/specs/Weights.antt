@@ -54,6 +54,19 @@ measured-haack = (refl, refl)
 
 -- ---- in between
 
+-- whatever the parameter: between the two references around it, by its distance from the lower one over the whole gap
+pub power-weight :
+    (rest f n : Float) → between 0·0 n 1·0 ≡ true →
+    power rest f n ≡ Curve.Built (interpolated rest f (powerBracket n .lower) (powerBracket n .upper) ((n ⊖ powerBracket n .low) ⊘ (powerBracket n .high ⊖ powerBracket n .low)))
+unfolding power betweenReferences weightOf
+power-weight rest f n ok = simp ok
+
+pub parabolic-weight :
+    (rest f k : Float) → between 0·0 k 1·0 ≡ true →
+    parabolic rest f k ≡ Curve.Built (interpolated rest f (parabolicBracket k .lower) (parabolicBracket k .upper) ((k ⊖ parabolicBracket k .low) ⊘ (parabolicBracket k .high ⊖ parabolicBracket k .low)))
+unfolding parabolic betweenReferences weightOf
+parabolic-weight rest f k ok = simp ok
+
 -- from 1/2 to 3/4 the curve lies between the two measured noses there, by the distance from 1/2 over the whole gap
 pub power-between :
     (rest f n : Float) → between 0·0 n 1·0 ≡ true → (n ≺ 0·25) ≡ false → (n ≺ 0·5) ≡ false → (n ≺ 0·75) ≡ true →

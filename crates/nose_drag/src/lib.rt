@@ -24,6 +24,7 @@ use drag::check_mach_any;
 use drag::joint_pressure_drag_coefficient;
 use drag::max;
 use drag::stagnation_ratio;
+use elementary::LN_2;
 use shapes::NoseShape;
 use stoney::StoneyNose;
 use stoney::ValueAndSlope;
@@ -39,8 +40,6 @@ pub const ROUND_HEAD_FOREBODY_PRESSURE_DRAG: f64 = -0.05;
 
 // The ratio of specific heats of air in eq. B.5.
 const GAMMA: f64 = 1.4;
-
-const LN_2: f64 = 0.693147180559945309417232121458176568;
 
 // ln 4, for eq. B.9's logarithm to base 4.
 const LN_4: f64 = LN_2 * 2.0;

@@ -182,11 +182,17 @@ pub fn tag_of(line: &[u8]) -> u8
     if 0 < line.len() { line[0] } else { 0 }
 }
 
-// Whether the line's last field, from `at` on, is these bits.
+// Whether the line's last field, from `at` on, is these bits. A space, 16 digits and the line feed
+// are 18 bytes.
 pub fn ends_with_bits(line: &[u8], at: usize, bits: u64) -> bool
-    requires { ⌜ at ≤ 1000 ⌝ }
     ensures { λ r. ⌜ r ≡ endsWithBits (now (line .entry)) at bits ⌝ }
 {
+    if line.len() < 18 {
+        return false;
+    }
+    if at != line.len() - 18 {
+        return false;
+    }
     if field_is(bits_at(line, at), bits) {
         ends_at(line, at + 17)
     } else {
@@ -194,11 +200,16 @@ pub fn ends_with_bits(line: &[u8], at: usize, bits: u64) -> bool
     }
 }
 
-// Whether the line's last three fields, from `at` on, are this answer.
+// Whether the line's last three fields, from `at` on, are this answer: 24 bytes with the line feed.
 pub fn ends_with(line: &[u8], at: usize, answer: Answer) -> bool
-    requires { ⌜ at ≤ 900 ⌝ }
     ensures { λ r. ⌜ r ≡ endsWith (now (line .entry)) at answer ⌝ }
 {
+    if line.len() < 24 {
+        return false;
+    }
+    if at != line.len() - 24 {
+        return false;
+    }
     if field_is(pair_at(line, at), answer.refusal) {
         if field_is(pair_at(line, at + 3), answer.code) {
             ends_with_bits(line, at + 6, answer.bits)
@@ -212,7 +223,6 @@ pub fn ends_with(line: &[u8], at: usize, answer: Answer) -> bool
 
 // Whether the line ends with what it asks for; a line that asks for nothing doesn't.
 pub fn is_answered(line: &[u8], at: usize, asked: Asked) -> bool
-    requires { ⌜ at ≤ 900 ⌝ }
     ensures { λ r. ⌜ r ≡ answered (now (line .entry)) at asked ⌝ }
 {
     match asked {
@@ -282,7 +292,8 @@ impl Counts {
         self
     }
 
-    // The line of one tag: its name, and how many agree of how many.
+    // Writes the line of one tag: its name, and how many agree of how many. It answers nothing, and
+    // no contract can speak of what is written; each program's file `stdout` is held to it.
     pub fn write(self, name: &[u8], tag: u8) {
         let place = place_of(tag);
         io::write_all(STDOUT_FILENO, name);
@@ -291,7 +302,7 @@ impl Counts {
         io::write_all(STDOUT_FILENO, b"\n");
     }
 
-    // The line of the whole list.
+    // Writes the line of the whole list.
     pub fn write_all(self, name: &[u8]) {
         io::write_all(STDOUT_FILENO, name);
         io::write_all(STDOUT_FILENO, b": ");

@@ -1,0 +1,2 @@
+-- The laws that the proofs share.
+pub mod Ends
