@@ -1,0 +1,3 @@
+-- The laws that the proofs of the library's functions share.
+pub mod Tables
+pub mod Turns

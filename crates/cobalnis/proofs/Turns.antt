@@ -1,0 +1,112 @@
+-- A turn of each loop over words: one thing more is read into its slot, one thing more is put into its words, or one thing more is tested.
+-- Assumes nothing.
+use mathlib.Core.Path.{_≡_, refl, sym, ap, _∙_}
+use mathlib.Core.Bool.{Bool, true, false, cond}
+use mathlib.Core.List.{List, [], _∷_, _++_, append-assoc, append-nil}
+use Prim.Native.Nat.{ℕ, zero, suc, _+_, _-_, _*_, _<_, _≤_}
+use native.Mathlib.Numerals.{add-one}
+use native.Mathlib.Nat.{suc-mul}
+use native.Mathlib.Omega.{arith}
+use lib.ListN.{length, set, getD, drop, replicate, length-append, drop-of-length-le}
+use lib.Seq.{set-at, sets, sets-eq, drop-cons, drop-drop, getD-drop}
+use lib.Dec.{ltb}
+use lib.Ieee.{Float}
+use Rattle.aero_error.specs.declared.Check.the-variants.{Passed}
+use Rattle.drag.specs.Friction.{machChecked}
+use Rattle.drag_sheet.specs.Tests.{_then_}
+use Rattle.sheet_text.proofs.Puts.{sets-append}
+use Rattle.cobalnis.specs.Words.{every, spread, shapesStand}
+use Rattle.cobalnis.specs.Answers.{machsTest}
+
+-- ---- reading
+
+every-long : {A : Type 0} (read : List ℕ → A) (size n : ℕ) (ws : List ℕ) → length (every read size n ws) ≡ n
+unfolding every
+every-long read size zero ws = refl
+every-long read size (suc n) ws = ap suc (every-long read size n (drop size ws))
+
+-- one thing more stands at the end
+every-more : {A : Type 0} (read : List ℕ → A) (size n : ℕ) (ws : List ℕ)
+    → every read size (suc n) ws ≡ every read size n ws ++ (read (drop (n * size) ws) ∷ [])
+unfolding every
+every-more {A = A} read size zero ws = let e : 0 ≡ 0 * size = omega arith in ap (λ (k : ℕ). read (drop k ws) ∷ []) e
+every-more {A = A} read size (suc n) ws =
+    let e : size + n * size ≡ suc n * size = let h = suc-mul n size in omega (arith, h) in
+    ap (λ (xs : List A). read ws ∷ xs)
+    (every-more read size n (drop size ws)
+    ∙ ap (λ (us : List ℕ). every read size n (drop size ws) ++ (read us ∷ [])) (drop-drop (n * size) size ws ∙ ap (λ (k : ℕ). drop k ws) e))
+
+-- the next thing goes into its slot
+pub slot-filled : {A : Type 0} (read : List ℕ → A) (z : A) (size total n : ℕ) (ws : List ℕ) → n < total
+    → set (every read size n ws ++ replicate (total - n) z) n (read (drop (n * size) ws)) ≡ every read size (n + 1) ws ++ replicate (total - (n + 1)) z
+slot-filled {A = A} read z size total n ws h =
+    let x = read (drop (n * size) ws) in
+    let e : total - n ≡ suc (total - (n + 1)) = omega arith in
+    let rest = replicate (total - (n + 1)) z in
+    ap (λ (k : ℕ). set (every read size n ws ++ replicate k z) n x) e
+    ∙ set-at (every read size n ws) z rest x n (every-long read size n ws)
+    ∙ sym (append-assoc (every read size n ws) (x ∷ []) rest)
+    ∙ ap (λ (xs : List A). xs ++ rest) (sym (ap (λ (k : ℕ). every read size k ws) (add-one n) ∙ every-more read size n ws))
+
+-- a word at a place of what is left
+pub word-at : (ws : List ℕ) (at k : ℕ) → getD ws (at + k) 0 ≡ getD (drop k (drop at ws)) 0 0
+word-at ws at k = let e : at + k ≡ at + k + 0 = omega arith in ap (λ (n : ℕ). getD ws n 0) e ∙ sym (getD-drop (at + k) ws 0 0) ∙ ap (λ (us : List ℕ). getD us 0 0) (sym (drop-drop k at ws))
+
+-- ---- putting
+
+-- the words of what is left, after the first thing's are put
+pub spread-step : {A : Type 0} (words : A → List ℕ) (xs : List A) (d : A) (i : ℕ) (us : List ℕ) (at : ℕ) → i < length xs
+    → sets us at (spread words (drop i xs)) ≡ sets (sets us at (words (getD xs i d))) (at + length (words (getD xs i d))) (spread words (drop (i + 1) xs))
+unfolding spread
+spread-step {A = A} words xs d i us at h =
+    ap (λ (ys : List A). sets us at (spread words ys)) (drop-cons xs i d h ∙ ap (λ (k : ℕ). getD xs i d ∷ drop k xs) (sym (add-one i)))
+    ∙ sets-append (words (getD xs i d)) (spread words (drop (i + 1) xs)) us at
+
+-- how many words that is, `size` for each
+pub spread-long : {A : Type 0} (words : A → List ℕ) (size : ℕ) → ((x : A) → length (words x) ≡ size) → (xs : List A) → length (spread words xs) ≡ length xs * size
+unfolding spread
+spread-long words size each [] = let e : 0 ≡ 0 * size = omega arith in e
+spread-long words size each (x ∷ xs) =
+    let a = length-append (words x) (spread words xs) in
+    let b = spread-long words size each xs in
+    let h = suc-mul (length xs) size in
+    let k = each x in
+    omega (arith, a, b, h, k)
+
+-- as many words as there are, from the first on, are all of them
+pub sets-all : (vs ws : List ℕ) → length vs ≡ length ws → sets ws 0 vs ≡ vs
+sets-all vs ws e = sets-eq vs ws 0 (omega arith) ∙ ap (λ (us : List ℕ). vs ++ us) (drop-of-length-le ws {i = 0 + length vs} (omega arith)) ∙ append-nil vs
+
+-- ---- testing
+
+pub shapes-step : (n : ℕ) (ws : List ℕ) (i : ℕ) → i < n → ltb 5 (getD (drop (i * 6) ws) 0 0) ≡ false
+    → shapesStand (n - i) (drop (i * 6) ws) ≡ shapesStand (n - (i + 1)) (drop ((i + 1) * 6) ws)
+unfolding shapesStand
+shapes-step n ws i h low =
+    let e : n - i ≡ suc (n - (i + 1)) = omega arith in
+    let k : i * 6 + 6 ≡ (i + 1) * 6 = omega arith in
+    ap (λ (m : ℕ). shapesStand m (drop (i * 6) ws)) e
+    ∙ ap (λ (t : Bool). cond t false (shapesStand (n - (i + 1)) (drop 6 (drop (i * 6) ws)))) low
+    ∙ ap (shapesStand (n - (i + 1))) (drop-drop 6 (i * 6) ws ∙ ap (λ (m : ℕ). drop m ws) k)
+
+pub shapes-stop : (n : ℕ) (ws : List ℕ) (i : ℕ) → i < n → ltb 5 (getD (drop (i * 6) ws) 0 0) ≡ true → shapesStand (n - i) (drop (i * 6) ws) ≡ false
+unfolding shapesStand
+shapes-stop n ws i h high =
+    let e : n - i ≡ suc (n - (i + 1)) = omega arith in
+    ap (λ (m : ℕ). shapesStand m (drop (i * 6) ws)) e
+    ∙ ap (λ (t : Bool). cond t false (shapesStand (n - (i + 1)) (drop 6 (drop (i * 6) ws)))) high
+
+pub machs-at : (machs : List Float) (i : ℕ) (d : Float) → i < length machs → machsTest (drop i machs) ≡ (machChecked (getD machs i d) then machsTest (drop (i + 1) machs))
+unfolding machsTest
+machs-at machs i d h = ap machsTest (drop-cons machs i d h ∙ ap (λ (k : ℕ). getD machs i d ∷ drop k machs) (sym (add-one i)))
+
+-- six words, stored one by one
+pub six-words : (ws : List ℕ) (at a b c d e f : ℕ)
+    → set (set (set (set (set (set ws at a) (at + 1) b) (at + 2) c) (at + 3) d) (at + 4) e) (at + 5) f ≡ sets ws at (a ∷ b ∷ c ∷ d ∷ e ∷ f ∷ [])
+six-words ws at a b c d e f =
+    let e1 : at + 1 ≡ suc at = omega arith in
+    let e2 : at + 2 ≡ suc (suc at) = omega arith in
+    let e3 : at + 3 ≡ suc (suc (suc at)) = omega arith in
+    let e4 : at + 4 ≡ suc (suc (suc (suc at))) = omega arith in
+    let e5 : at + 5 ≡ suc (suc (suc (suc (suc at)))) = omega arith in
+    rw (e1, e2, e3, e4, e5)

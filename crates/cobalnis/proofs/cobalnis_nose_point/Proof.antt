@@ -1,0 +1,72 @@
+-- `cobalnis::cobalnis_nose_point` meets its contract.
+use Rattle.stoney.specs.declared.PointRange.{PointRange}
+use Rattle.stoney.specs.Points.{rangeOf, range-within}
+use borrow.Author.Tests.{le-leb, lt-leb}
+use mathlib.Core.Path.{_≡_, refl, sym, ap, _∙_}
+use native.Mathlib.Omega.{arith}
+use borrow.Author.Needs.{needs}
+use Rattle.cobalnis.proofs.cobalnis_nose_point.Statement.{statement}
+use Rattle.cobalnis.proofs.cobalnis_nose_point.Tie as tie
+
+nose-of-requires : tie.Need-nose-of-requires
+nose-of-requires c κs = search needs
+
+points-requires : tie.Need-points-requires
+points-requires c κs = search needs
+
+status-of-requires : tie.Need-status-of-requires
+status-of-requires c κs = search needs
+
+returns : tie.Need-returns
+returns c =
+    let k = le-leb _ _ (c .before .before .before .before .before .if1 .taken) in
+    let q = c .before .before .before .points .ensures ∙ ap rangeOf (c .before .before .before .before .nose-of .ensures) in
+    let t = le-leb _ _ (c .before .if2 .taken) in
+    (simp (k, ← q, t, c .status-of .ensures), simp (k, ← q, t))
+
+add-at : tie.Need-add-at
+add-at c =
+    let h = range-within (c .before .before .before .before .nose-of .result) .1 in
+    let r = c .before .before .before .points .ensures in
+    let first = ap (λ (p : PointRange). p .first) r in
+    let count = ap (λ (p : PointRange). p .count) r in
+    omega (arith, h, first, count, c .before .if2 .left)
+
+mach-at-requires : tie.Need-mach-at-requires
+mach-at-requires c κs = search needs
+
+to-bits-requires : tie.Need-to-bits-requires
+to-bits-requires c κs = search needs
+
+drag-at-requires : tie.Need-drag-at-requires
+drag-at-requires c κs = search needs
+
+to-bits-requires-2 : tie.Need-to-bits-requires-2
+to-bits-requires-2 c κs = search needs
+
+returns-2 : tie.Need-returns-2
+returns-2 c =
+    let e = c .before .before .before .before .before .before in
+    let k = le-leb _ _ (e .before .before .before .before .if1 .taken) in
+    let q = e .before .before .points .ensures ∙ ap rangeOf (e .before .before .before .nose-of .ensures) in
+    let f = lt-leb _ _ (e .if2 .left) in
+    (simp (k, ← q, f), simp (k, ← q, f, c .before .to-bits2 .ensures, c .before .before .drag-at .ensures, c .before .before .before .to-bits .ensures, c .before .before .before .before .mach-at .ensures))
+
+returns-3 : tie.Need-returns-3
+returns-3 c = let k = lt-leb _ _ (c .if1 .left) in (simp k, simp k)
+
+pub cobalnis-nose-point-spec : {M : Type 1} → statement M
+cobalnis-nose-point-spec =
+    tie.close
+    (tie.spec
+    nose-of-requires
+    points-requires
+    status-of-requires
+    returns
+    add-at
+    mach-at-requires
+    to-bits-requires
+    drag-at-requires
+    to-bits-requires-2
+    returns-2
+    returns-3)

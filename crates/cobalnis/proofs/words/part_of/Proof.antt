@@ -1,0 +1,61 @@
+-- `cobalnis::words::part_of` meets its contract.
+use borrow.Author.Needs.{needs}
+use Rattle.cobalnis.proofs.words.part_of.Statement.{statement}
+use Rattle.cobalnis.proofs.words.part_of.Tie as tie
+
+element-copy-out-shape-of : tie.Need-element-copy-out-shape-of
+element-copy-out-shape-of c = search needs
+
+element-copy-out-from-bits : tie.Need-element-copy-out-from-bits
+element-copy-out-from-bits c = search needs
+
+from-bits-requires : tie.Need-from-bits-requires
+from-bits-requires c κs = search needs
+
+shape-of-requires : tie.Need-shape-of-requires
+shape-of-requires c κs = search needs
+
+element-copy-out-from-bits-2 : tie.Need-element-copy-out-from-bits-2
+element-copy-out-from-bits-2 c = search needs
+
+from-bits-requires-2 : tie.Need-from-bits-requires-2
+from-bits-requires-2 c κs = search needs
+
+element-copy-out-from-bits-3 : tie.Need-element-copy-out-from-bits-3
+element-copy-out-from-bits-3 c = search needs
+
+from-bits-requires-3 : tie.Need-from-bits-requires-3
+from-bits-requires-3 c κs = search needs
+
+element-copy-out-from-bits-4 : tie.Need-element-copy-out-from-bits-4
+element-copy-out-from-bits-4 c = search needs
+
+from-bits-requires-4 : tie.Need-from-bits-requires-4
+from-bits-requires-4 c κs = search needs
+
+element-copy-out-from-bits-5 : tie.Need-element-copy-out-from-bits-5
+element-copy-out-from-bits-5 c = search needs
+
+from-bits-requires-5 : tie.Need-from-bits-requires-5
+from-bits-requires-5 c κs = search needs
+
+returns : tie.Need-returns
+returns c = cc
+
+pub part-of-spec : {M : Type 1} → statement M
+part-of-spec =
+    tie.close
+    (tie.spec
+    element-copy-out-shape-of
+    element-copy-out-from-bits
+    from-bits-requires
+    shape-of-requires
+    element-copy-out-from-bits-2
+    from-bits-requires-2
+    element-copy-out-from-bits-3
+    from-bits-requires-3
+    element-copy-out-from-bits-4
+    from-bits-requires-4
+    element-copy-out-from-bits-5
+    from-bits-requires-5
+    returns)

@@ -1,0 +1,98 @@
+-- A part and a sheet as words of 64 bits: what a list of words stands for, and the words of a part and of a sheet. A float is the word of its bits.
+--
+--   a part    6 words: the shape's number, its parameter, length, aft diameter, joint angle, wetted ratio
+--   a sheet 165 words: reference diameter, roughness, body fineness, number of columns, 32 Machs, 32 Reynolds numbers, number of parts, 16 parts
+use mathlib.Core.Bool.{Bool, true, false, cond}
+use mathlib.Core.List.{List, [], _∷_, _++_}
+use Prim.Native.Nat.{ℕ, zero, suc}
+use lib.ListN.{getD, drop}
+use lib.Dec.{ltb}
+use lib.Ieee.{Float, toBits, binary64}
+use Rattle.elementary.specs.Arithmetic.{bits}
+use Rattle.elementary.specs.Constants.{0·0}
+use Rattle.shapes.specs.declared.NoseShape.{NoseShape}
+use Rattle.shapes.specs.declared.NoseShape.the-variants.{Conical, Ogive, Elliptical, PowerSeries, ParabolicSeries, Haack}
+use Rattle.shapes.specs.Numbers.{numberOfShape}
+use Rattle.drag_sheet.specs.declared.Settings.{Settings}
+use Rattle.drag_sheet.specs.declared.Part.{Part}
+use Rattle.drag_sheet.specs.declared.Sheet.{Sheet}
+use Rattle.drag_sheet.specs.Layout.{most-columns, part-rows}
+use Rattle.cards.specs.Cards.{shapeOf}
+
+-- ---- what words stand for
+
+-- n things, each read from `size` words
+unfoldable pub every : {A : Type 0} → (List ℕ → A) → ℕ → ℕ → List ℕ → List A
+every read size zero ws = []
+every read size (suc n) ws = read ws ∷ every read size n (drop size ws)
+
+abbrev pub float : List ℕ → Float
+float ws = bits (getD ws 0 0)
+
+abbrev pub partOf : List ℕ → Part
+partOf ws = record {
+  shape = shapeOf (getD ws 0 0) (bits (getD ws 1 0));
+  length = bits (getD ws 2 0);
+  «aft_diameter» = bits (getD ws 3 0);
+  «joint_angle» = bits (getD ws 4 0);
+  «wetted_ratio» = bits (getD ws 5 0);
+}
+
+abbrev pub settingsOf : List ℕ → Settings
+settingsOf ws = record {
+  «reference_diameter» = bits (getD ws 0 0);
+  roughness = bits (getD ws 1 0);
+  «body_fineness» = bits (getD ws 2 0);
+  count = getD ws 3 0;
+  machs = every float 1 most-columns (drop 4 ws);
+  reynolds = every float 1 most-columns (drop 36 ws);
+}
+
+abbrev pub sheetOf : List ℕ → Sheet
+sheetOf ws = record { settings = settingsOf ws; design = record { count = getD ws 68 0; parts = every partOf 6 part-rows (drop 69 ws) } }
+
+-- whether each of n parts has a shape's number up to 5
+unfoldable pub shapesStand : ℕ → List ℕ → Bool
+shapesStand zero ws = true
+shapesStand (suc n) ws = cond (ltb 5 (getD ws 0 0)) false (shapesStand n (drop 6 ws))
+
+-- ---- the words of a thing
+
+-- the words of each, one after the other
+unfoldable pub spread : {A : Type 0} → (A → List ℕ) → List A → List ℕ
+spread words [] = []
+spread words (x ∷ xs) = words x ++ spread words xs
+
+abbrev pub floatWords : Float → List ℕ
+floatWords x = toBits binary64 x ∷ []
+
+-- a shape without a parameter has +0 in its place
+abbrev pub parameterOf : NoseShape → Float
+parameterOf Conical = 0·0
+parameterOf (Ogive radius-ratio) = radius-ratio
+parameterOf Elliptical = 0·0
+parameterOf (PowerSeries exponent) = exponent
+parameterOf (ParabolicSeries parameter) = parameter
+parameterOf (Haack parameter) = parameter
+
+abbrev pub partWords : Part → List ℕ
+partWords p =
+    numberOfShape (p .shape)
+    ∷ toBits binary64 (parameterOf (p .shape))
+    ∷ toBits binary64 (p .length)
+    ∷ toBits binary64 (p .«aft_diameter»)
+    ∷ toBits binary64 (p .«joint_angle»)
+    ∷ toBits binary64 (p .«wetted_ratio»)
+    ∷ []
+
+abbrev pub settingsWords : Settings → List ℕ
+settingsWords s =
+    toBits binary64 (s .«reference_diameter»)
+    ∷ toBits binary64 (s .roughness)
+    ∷ toBits binary64 (s .«body_fineness»)
+    ∷ s .count
+    ∷ (spread floatWords (s .machs) ++ spread floatWords (s .reynolds))
+
+unfoldable pub sheetWords : Sheet → List ℕ
+unfolding spread
+sheetWords sheet = settingsWords (sheet .settings) ++ (sheet .design .count ∷ spread partWords (sheet .design .parts))
