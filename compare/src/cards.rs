@@ -5,6 +5,7 @@
 //! time, and nothing behind the first refusal is looked at.
 
 use crate::answer_bits;
+pub use crate::builds::fixed_steps::shape_of;
 use crate::model::{
     insert, open, Column, Part, Settings, Sheet, BASE, COLUMNS, FRICTION, ROWS, TOTAL,
 };
@@ -40,10 +41,8 @@ impl Bytes<'_> {
 
     /// "Floats as 8 bytes, low byte first."
     fn float(&mut self) -> Result<f64, u8> {
-        let mut eight = [0; 8];
-        for place in &mut eight {
-            *place = self.byte()?;
-        }
+        let (&eight, rest) = self.0.split_first_chunk().ok_or(ENDED)?;
+        self.0 = rest;
         Ok(f64::from_bits(u64::from_le_bytes(eight)))
     }
 
@@ -128,22 +127,30 @@ fn part_card(bytes: &mut Bytes) -> Result<Part, u8> {
     })
 }
 
-/// "0 conical, 1 ogive, 2 elliptical, 3 power, 4 parabolic, 5 Haack"; the parameter is not used for
-/// 0 and 2.
-pub fn shape_of(number: u64, parameter: f64) -> NoseShape {
-    match number {
-        0 => NoseShape::Conical {},
-        1 => NoseShape::Ogive {
-            radius_ratio: parameter,
-        },
-        2 => NoseShape::Elliptical {},
-        3 => NoseShape::PowerSeries {
-            exponent: parameter,
-        },
-        4 => NoseShape::ParabolicSeries { parameter },
-        5 => NoseShape::Haack { parameter },
-        _ => unreachable!("there are six shapes"),
+/// The shape's number and parameter, 0 where it has none.
+pub fn of_shape(shape: NoseShape) -> (u64, f64) {
+    match shape {
+        NoseShape::Conical {} => (0, 0.0),
+        NoseShape::Ogive { radius_ratio } => (1, radius_ratio),
+        NoseShape::Elliptical {} => (2, 0.0),
+        NoseShape::PowerSeries { exponent } => (3, exponent),
+        NoseShape::ParabolicSeries { parameter } => (4, parameter),
+        NoseShape::Haack { parameter } => (5, parameter),
     }
+}
+
+/// A settings card from the byte `at` on, and where it ends; a place past the end has no bytes.
+pub fn read_settings(bytes: &[u8], at: usize) -> Result<(Settings, usize), u8> {
+    let mut left = Bytes(bytes.get(at..).unwrap_or_default());
+    let settings = settings_card(&mut left)?;
+    Ok((settings, bytes.len() - left.0.len()))
+}
+
+/// A part card from the byte `at` on, and where it ends.
+pub fn read_part(bytes: &[u8], at: usize) -> Result<(Part, usize), u8> {
+    let mut left = Bytes(bytes.get(at..).unwrap_or_default());
+    let part = part_card(&mut left)?;
+    Ok((part, bytes.len() - left.0.len()))
 }
 
 // ---- the program

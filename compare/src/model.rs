@@ -67,18 +67,9 @@ pub const NO_PART: Part = Part {
 /// A call that is refused, as a list writes it.
 type Refusal = Answer;
 
-/// The refusals with a number and no more.
-fn refused(number: u8) -> Refusal {
-    Answer {
-        refusal: number,
-        code: 0,
-        bits: 0,
-    }
-}
-
 /// An error of the original as a refusal.
 fn of_error(error: AeroError) -> Refusal {
-    Answer::of(Err(error))
+    error.into()
 }
 
 impl Settings {
@@ -109,7 +100,7 @@ fn house(low: f64, x: f64, high: f64) -> Result<(), Refusal> {
     if low <= x && x <= high {
         Ok(())
     } else {
-        Err(refused(11))
+        Err(Answer::refused(11))
     }
 }
 
@@ -122,7 +113,7 @@ fn test_column(column: Column) -> Result<(), Refusal> {
 /// "Open: 7, 11 for D, then roughness, 1 for B, 1 for each column (M, R), 10."
 fn test_settings(settings: &Settings, lent: usize) -> Result<(), Refusal> {
     if settings.count > COLUMNS {
-        return Err(refused(7));
+        return Err(Answer::refused(7));
     }
     house(0.001, settings.reference_diameter, 100.0)?;
     house(0.0, settings.roughness, 1.0)?;
@@ -131,7 +122,7 @@ fn test_settings(settings: &Settings, lent: usize) -> Result<(), Refusal> {
         test_column(column)?;
     }
     if lent < ROWS * settings.count {
-        return Err(refused(10));
+        return Err(Answer::refused(10));
     }
     Ok(())
 }
@@ -148,7 +139,7 @@ fn test_part(part: &Part) -> Result<(), Refusal> {
 fn test_sheet(sheet: &Sheet, lent: usize) -> Result<(), Refusal> {
     test_settings(&sheet.settings, lent)?;
     if sheet.design.count > PLACES {
-        return Err(refused(9));
+        return Err(Answer::refused(9));
     }
     for part in sheet.design.parts() {
         test_part(part)?;
@@ -284,7 +275,7 @@ pub fn replace(sheet: &Sheet, place: usize, part: &Part, cells: &mut [f64]) -> (
     let test = || {
         test_sheet(sheet, cells.len())?;
         if place >= sheet.design.count {
-            return Err(refused(8));
+            return Err(Answer::refused(8));
         }
         test_part(part)
     };
@@ -308,10 +299,10 @@ pub fn insert(sheet: &Sheet, place: usize, part: &Part, cells: &mut [f64]) -> (A
     let test = || {
         test_sheet(sheet, cells.len())?;
         if place > count {
-            return Err(refused(8));
+            return Err(Answer::refused(8));
         }
         if count == PLACES {
-            return Err(refused(9));
+            return Err(Answer::refused(9));
         }
         test_part(part)
     };
@@ -335,7 +326,7 @@ pub fn remove(sheet: &Sheet, place: usize, cells: &mut [f64]) -> (Answer, Sheet)
         return (refusal, *sheet);
     }
     if place >= count {
-        return (refused(8), *sheet);
+        return (Answer::refused(8), *sheet);
     }
     let mut after = *sheet;
     after.design.count = count - 1;
@@ -351,7 +342,7 @@ pub fn set_column(sheet: &Sheet, column: usize, new: Column, cells: &mut [f64]) 
     let test = || {
         test_sheet(sheet, cells.len())?;
         if column >= sheet.settings.count {
-            return Err(refused(8));
+            return Err(Answer::refused(8));
         }
         test_column(new)
     };

@@ -2,7 +2,7 @@
 //! write it.
 
 use crate::answer_bits;
-use crate::original_fixed::AeroError;
+use crate::{original_fixed, original_plain};
 
 /// Document 01's code for each of the Rust's `what` texts, 1 to 22 in its order.
 pub const CODES: [&str; 22] = [
@@ -60,38 +60,68 @@ impl Answer {
         Self::accepted(answer_bits(x))
     }
 
-    /// A number or the original's error. `Unsupported` is refusal 2 for an ogive and 3 for a Haack
-    /// series, which its text tells apart.
-    pub fn of(result: Result<f64, AeroError>) -> Self {
+    /// A number or the original's error.
+    pub fn of<E: Into<Answer>>(result: Result<f64, E>) -> Self {
         match result {
             Ok(x) => Self::value(x),
-            Err(AeroError::Domain { what, value }) => Self {
-                refusal: 1,
-                code: code(what),
-                bits: answer_bits(value),
-            },
-            Err(AeroError::Unsupported(text)) => {
-                let refusal = if text.starts_with("an ogive of radius ratio") {
-                    2
-                } else if text.starts_with("a Haack series nose") {
-                    3
-                } else {
-                    panic!("document 01 has no number for `{text}`")
-                };
-                Self {
-                    refusal,
-                    code: 0,
-                    bits: 0,
-                }
-            }
+            Err(error) => error.into(),
         }
     }
 
     /// The answer of a test, which carries no value when it passes.
-    pub fn of_check(result: Result<(), AeroError>) -> Self {
+    pub fn of_check<E: Into<Answer>>(result: Result<(), E>) -> Self {
         match result {
             Ok(()) => Self::accepted(0),
-            Err(error) => Self::of(Err(error)),
+            Err(error) => error.into(),
+        }
+    }
+
+    /// A refusal without a code and a value.
+    pub fn refused(number: u8) -> Self {
+        Self {
+            refusal: number,
+            code: 0,
+            bits: 0,
+        }
+    }
+
+    /// Refusal 1.
+    fn domain(what: &str, value: f64) -> Self {
+        Self {
+            refusal: 1,
+            code: code(what),
+            bits: answer_bits(value),
+        }
+    }
+
+    /// `Unsupported` is refusal 2 for an ogive and 3 for a Haack series, which its text tells apart.
+    fn unsupported(text: &str) -> Self {
+        if text.starts_with("an ogive of radius ratio") {
+            Self::refused(2)
+        } else if text.starts_with("a Haack series nose") {
+            Self::refused(3)
+        } else {
+            panic!("document 01 has no number for `{text}`")
+        }
+    }
+}
+
+impl From<original_fixed::AeroError> for Answer {
+    #[cold]
+    fn from(error: original_fixed::AeroError) -> Self {
+        match error {
+            original_fixed::AeroError::Domain { what, value } => Self::domain(what, value),
+            original_fixed::AeroError::Unsupported(text) => Self::unsupported(&text),
+        }
+    }
+}
+
+impl From<original_plain::AeroError> for Answer {
+    #[cold]
+    fn from(error: original_plain::AeroError) -> Self {
+        match error {
+            original_plain::AeroError::Domain { what, value } => Self::domain(what, value),
+            original_plain::AeroError::Unsupported(text) => Self::unsupported(&text),
         }
     }
 }

@@ -35,9 +35,10 @@
 
 use std::io::{BufWriter, StdoutLock, Write};
 
-use compare::cards::shape_of;
 use compare::answer_bits;
-use compare::inputs::{specials, Random, NANS};
+use compare::arguments::Arguments;
+use compare::cards::{of_shape, shape_of};
+use compare::inputs::{specials, NANS};
 use compare::model::{
     insert, open, remove, replace, set_column, Column, Design, Part, Settings, Sheet, COLUMNS,
     NO_PART, PLACES, ROWS,
@@ -50,18 +51,6 @@ const BUFFER: usize = 640;
 /// The state's number so far, and one word more.
 fn mixed(h: u64, x: u64) -> u64 {
     (h ^ x).rotate_left(23).wrapping_mul(0x100_0000_01b3)
-}
-
-/// The shape's number and parameter.
-fn of_shape(shape: NoseShape) -> (u64, f64) {
-    match shape {
-        NoseShape::Conical {} => (0, 0.0),
-        NoseShape::Ogive { radius_ratio } => (1, radius_ratio),
-        NoseShape::Elliptical {} => (2, 0.0),
-        NoseShape::PowerSeries { exponent } => (3, exponent),
-        NoseShape::ParabolicSeries { parameter } => (4, parameter),
-        NoseShape::Haack { parameter } => (5, parameter),
-    }
 }
 
 /// A place and a part, as a line writes them, with a bit function for the floats.
@@ -80,7 +69,7 @@ fn part_words(place: u64, part: &Part, bits: fn(f64) -> u64) -> [u64; 7] {
 
 struct Play {
     out: BufWriter<StdoutLock<'static>>,
-    random: Random,
+    args: Arguments,
     sheet: Sheet,
     cells: Vec<f64>,
     lent: usize,
@@ -210,157 +199,15 @@ impl Play {
         self.handed('t', &args, back)
     }
 
-    // ---- arguments
-
-    /// One in so many.
-    fn one_in(&mut self, n: u64) -> bool {
-        self.random.bits() % n == 0
-    }
-
-    fn below(&mut self, n: usize) -> usize {
-        (self.random.bits() % n as u64) as usize
-    }
-
-    /// A number of a house interval, its ends often; outside it, or NaN, one time in `bad`.
-    fn house(&mut self, low: f64, high: f64, usual: f64, bad: u64) -> f64 {
-        if self.one_in(bad) {
-            let outside = [
-                NANS[1],
-                f64::INFINITY,
-                f64::NEG_INFINITY,
-                high.next_up(),
-                if low == 0.0 {
-                    -f64::from_bits(1)
-                } else {
-                    low.next_down()
-                },
-                -1.0,
-                high + 1.0,
-            ];
-            return self.random.pick(&outside);
-        }
-        match self.below(8) {
-            0 => low,
-            1 => high,
-            2 if low == 0.0 => -0.0,
-            2 => low,
-            3 => self.random.between(low, high),
-            _ => self.random.between(low, usual),
-        }
-    }
-
-    fn a_column(&mut self, bad: u64) -> Column {
-        let mach = if self.one_in(bad) {
-            let list = [
-                NANS[3],
-                f64::INFINITY,
-                -1.0,
-                -f64::from_bits(1),
-                f64::NEG_INFINITY,
-            ];
-            self.random.pick(&list)
-        } else if self.one_in(3) {
-            let list = [
-                0.0,
-                -0.0,
-                0.8,
-                0.9,
-                1.0,
-                1.2,
-                2.0,
-                5.0,
-                1e200,
-                f64::from_bits(1),
-            ];
-            self.random.pick(&list)
-        } else {
-            self.random.between(0.0, 4.0)
-        };
-        let reynolds = if self.one_in(bad) {
-            let list = [NANS[4], f64::INFINITY, -1.0, -f64::from_bits(1), -1e9];
-            self.random.pick(&list)
-        } else if self.one_in(3) {
-            let list = [0.0, -0.0, 9999.0, 10000.0, 1e6, 1e300, f64::from_bits(1)];
-            self.random.pick(&list)
-        } else {
-            self.random.scaled(1e3, 1e9)
-        };
-        Column { mach, reynolds }
-    }
-
-    /// A part. Its d is often one of a few numbers, so that parts are as wide as their neighbours;
-    /// its shape and angle are refused one time in `odd`.
-    fn a_part(&mut self, bad: u64, odd: u64) -> Part {
-        let number = self.random.bits() % 6;
-        let parameter = if self.one_in(odd) {
-            let list = [
-                NANS[0],
-                -1.0,
-                0.4,
-                0.9,
-                1.5,
-                f64::INFINITY,
-                f64::NEG_INFINITY,
-            ];
-            self.random.pick(&list)
-        } else {
-            match number {
-                1 => {
-                    let list = [1.0, 1.2, 2.0, 1e300, 3.5];
-                    self.random.pick(&list)
-                }
-                5 => {
-                    let list = [0.0, 1.0 / 3.0, 0.2, 0.1];
-                    self.random.pick(&list)
-                }
-                _ => {
-                    let some = self.random.between(0.0, 1.0);
-                    self.random.pick(&[0.0, 0.25, 0.5, 0.75, 1.0, some, -0.0])
-                }
-            }
-        };
-        let joint_angle = if self.one_in(odd) {
-            let list = [NANS[6], 2.0, -0.1, f64::INFINITY];
-            self.random.pick(&list)
-        } else {
-            let some = self.random.between(0.0, 1.5);
-            self.random
-                .pick(&[0.0, some, some, 0.3, std::f64::consts::FRAC_PI_2])
-        };
-        let aft_diameter = if self.one_in(2) {
-            self.random
-                .pick(&[0.0, 0.1, 0.5, 1.0, 2.0, 100.0, 0.1, 0.1, 0.5])
-        } else {
-            self.house(0.0, 100.0, 1.0, bad)
-        };
-        Part {
-            shape: shape_of(number, parameter),
-            length: self.house(0.0, 100.0, 3.0, bad),
-            aft_diameter,
-            joint_angle,
-            wetted_ratio: self.house(0.0, 10000.0, 50.0, bad),
-        }
-    }
-
-    /// A place up to `count`, one past it sometimes, and sometimes far away.
-    fn a_place(&mut self, count: usize) -> usize {
-        match self.below(16) {
-            0 => count + 1,
-            1 => count,
-            2 => [usize::MAX, 16, 17, 33, 1 << 32][self.below(5)],
-            _ => self.below(count.max(1)),
-        }
-    }
-
     // ---- lists of calls
 
     /// Foreign values in all cells: one number everywhere, NaN, or many different ones.
     fn foreign(&mut self) {
-        match self.below(4) {
+        match self.args.below(4) {
             0 => self.fill(0x7ff8_0000_0000_0000, 0),
             1 => self.fill(0xc000_0000_0000_0000, 0x0000_1234_5678_9abc),
             2 => {
-                let (a, b) = (self.random.bits(), self.random.bits());
+                let (a, b) = (self.args.random.bits(), self.args.random.bits());
                 self.fill(a, b);
             }
             _ => self.fill(0x3ff0_0000_0000_0000, 1),
@@ -371,20 +218,20 @@ impl Play {
     fn opened(&mut self, count: usize) {
         self.foreign();
         for at in 0..count {
-            let column = self.a_column(u64::MAX);
+            let column = self.args.a_column(u64::MAX);
             self.column(at, column);
         }
-        let d = self.house(0.001, 100.0, 1.0, u64::MAX);
-        let roughness = self.house(0.0, 1.0, 1e-4, u64::MAX);
-        let b = match self.below(4) {
-            0 => self.random.pick(&[1e-320, 1e300, 1.0, 0.5]),
-            _ => self.random.between(1.0, 30.0),
+        let d = self.args.house(0.001, 100.0, 1.0, u64::MAX);
+        let roughness = self.args.house(0.0, 1.0, 1e-4, u64::MAX);
+        let b = match self.args.below(4) {
+            0 => self.args.random.pick(&[1e-320, 1e300, 1.0, 0.5]),
+            _ => self.args.random.between(1.0, 30.0),
         };
         self.settings(d, roughness, b, count);
-        let lent = match self.below(3) {
+        let lent = match self.args.below(3) {
             0 => BUFFER,
             1 => ROWS * count,
-            _ => ROWS * count + self.below(BUFFER - ROWS * count + 1),
+            _ => ROWS * count + self.args.below(BUFFER - ROWS * count + 1),
         };
         self.lend(lent);
         assert_eq!(self.open().refusal, 0);
@@ -394,30 +241,30 @@ impl Play {
     fn any_call(&mut self, bad: u64, odd: u64) {
         let parts = self.sheet.design.count;
         let columns = self.sheet.settings.count;
-        match self.below(12) {
+        match self.args.below(12) {
             0..=3 => {
-                let place = match self.below(6) {
-                    0 => self.a_place(parts),
-                    _ => self.below(parts + 1),
+                let place = match self.args.below(6) {
+                    0 => self.args.a_place(parts),
+                    _ => self.args.below(parts + 1),
                 };
-                let part = self.a_part(bad, odd);
+                let part = self.args.a_part(bad, odd);
                 self.insert(place, part);
             }
             4..=7 => {
-                let place = self.a_place(parts);
-                let part = self.a_part(bad, odd);
+                let place = self.args.a_place(parts);
+                let part = self.args.a_part(bad, odd);
                 self.replace(place, part);
             }
             8 => {
-                let place = self.a_place(parts);
+                let place = self.args.a_place(parts);
                 self.remove(place);
             }
-            9 if self.one_in(12) => {
+            9 if self.args.one_in(12) => {
                 self.open();
             }
             _ => {
-                let at = self.a_place(columns);
-                let column = self.a_column(bad);
+                let at = self.args.a_place(columns);
+                let column = self.args.a_column(bad);
                 self.set_column(at, column);
             }
         }
@@ -426,14 +273,14 @@ impl Play {
     /// Each kind of call once, on a sheet that was changed by hand.
     fn each_kind(&mut self) {
         let count = self.sheet.design.count;
-        let part = self.a_part(8, 8);
+        let part = self.args.a_part(8, 8);
         self.insert(count.min(2), part);
-        let part = self.a_part(8, 8);
-        let place = self.a_place(count.min(PLACES));
+        let part = self.args.a_part(8, 8);
+        let place = self.args.a_place(count.min(PLACES));
         self.replace(place, part);
-        let place = self.a_place(count.min(PLACES));
+        let place = self.args.a_place(count.min(PLACES));
         self.remove(place);
-        let column = self.a_column(8);
+        let column = self.args.a_column(8);
         self.set_column(0, column);
     }
 
@@ -443,37 +290,40 @@ impl Play {
         let lent = self.lent;
         let count = whole.settings.count;
         for _ in 0..3 {
-            for _ in 0..1 + self.below(3) {
-                match self.below(6) {
+            for _ in 0..1 + self.args.below(3) {
+                match self.args.below(6) {
                     0 => {
-                        let d = self.house(0.001, 100.0, 1.0, 2);
-                        let roughness = self.house(0.0, 1.0, 0.01, 2);
-                        let b = self.random.pick(&[0.0, -1.0, NANS[5], f64::INFINITY, 4.0]);
-                        let c = [count, count, 33, usize::MAX][self.below(4)];
+                        let d = self.args.house(0.001, 100.0, 1.0, 2);
+                        let roughness = self.args.house(0.0, 1.0, 0.01, 2);
+                        let b = self
+                            .args
+                            .random
+                            .pick(&[0.0, -1.0, NANS[5], f64::INFINITY, 4.0]);
+                        let c = [count, count, 33, usize::MAX][self.args.below(4)];
                         self.settings(d, roughness, b, c);
                     }
                     1 if count > 0 => {
-                        let at = self.below(count);
-                        let column = self.a_column(2);
+                        let at = self.args.below(count);
+                        let column = self.args.a_column(2);
                         self.column(at, column);
                     }
                     2 if count > 0 => {
-                        let short = self.below(ROWS * count);
+                        let short = self.args.below(ROWS * count);
                         self.lend(short);
                     }
                     3 => {
-                        let many = [17, 18, usize::MAX, 16][self.below(4)];
+                        let many = [17, 18, usize::MAX, 16][self.args.below(4)];
                         // What stands past the count is nobody's: a part is put there first.
                         for place in whole.design.count..PLACES {
-                            let part = self.a_part(40, 40);
+                            let part = self.args.a_part(40, 40);
                             self.hold(place, part);
                         }
                         self.parts(many);
                     }
                     _ => {
                         let held = whole.design.count.max(1);
-                        let place = self.below(held);
-                        let part = self.a_part(2, 4);
+                        let place = self.args.below(held);
+                        let part = self.args.a_part(2, 4);
                         self.hold(place, part);
                     }
                 }
@@ -506,28 +356,29 @@ impl Play {
     /// Opens that are refused, with several reasons at once, and accepted ones between.
     fn opens(&mut self) {
         for _ in 0..160 {
-            let count = [0, 1, 2, 3, 32][self.below(5)];
+            let count = [0, 1, 2, 3, 32][self.args.below(5)];
             for at in 0..count.min(3) {
-                let column = self.a_column(5);
+                let column = self.args.a_column(5);
                 self.column(at, column);
             }
-            let d = self.house(0.001, 100.0, 1.0, 5);
-            let roughness = self.house(0.0, 1.0, 0.01, 5);
-            let b = match self.below(5) {
+            let d = self.args.house(0.001, 100.0, 1.0, 5);
+            let roughness = self.args.house(0.0, 1.0, 0.01, 5);
+            let b = match self.args.below(5) {
                 0 => self
+                    .args
                     .random
                     .pick(&[0.0, -0.0, -1.0, NANS[7], f64::INFINITY, -1e-320]),
-                _ => self.random.pick(&[1.0, 10.0, 1e-320, 1e300]),
+                _ => self.args.random.pick(&[1.0, 10.0, 1e-320, 1e300]),
             };
-            let count = match self.below(12) {
-                0 => [33, 34, usize::MAX, 1 << 32][self.below(4)],
+            let count = match self.args.below(12) {
+                0 => [33, 34, usize::MAX, 1 << 32][self.args.below(4)],
                 _ => count,
             };
             self.settings(d, roughness, b, count);
             let enough = ROWS * count.min(COLUMNS);
-            let lent = match self.below(4) {
+            let lent = match self.args.below(4) {
                 0 => enough.saturating_sub(1),
-                1 => self.below(enough + 1),
+                1 => self.args.below(enough + 1),
                 _ => enough,
             };
             self.lend(lent);
@@ -679,13 +530,13 @@ impl Play {
     fn list(&mut self, columns: usize, calls: usize, bad: u64, odd: u64) {
         self.opened(columns);
         for _ in 0..calls {
-            if self.one_in(25) && columns > 0 {
-                let at = self.below(ROWS * columns);
+            if self.args.one_in(25) && columns > 0 {
+                let at = self.args.below(ROWS * columns);
                 let list = [NANS[2], 1.0, -0.0, f64::INFINITY, -3.5, 1e308];
-                let value = self.random.pick(&list);
+                let value = self.args.random.pick(&list);
                 self.poke(at, value);
             }
-            if self.one_in(40) {
+            if self.args.one_in(40) {
                 self.broken_sheet();
             }
             self.any_call(bad, odd);
@@ -699,7 +550,7 @@ impl Play {
 fn main() {
     let mut play = Play {
         out: BufWriter::new(std::io::stdout().lock()),
-        random: Random::new(0x5eed_0005),
+        args: Arguments::new(0x5eed_0005),
         sheet: Sheet {
             settings: Settings {
                 reference_diameter: 0.0,

@@ -5,21 +5,11 @@
 //!
 //! A distance counts the floats from one answer to the other, so 0 means equal bits.
 
-use compare::fixed;
 use compare::inputs::Random;
+use compare::{distance, fixed};
 
 /// A million and a bit: both ends, then random ones.
 const SAMPLES: usize = 2_000_000;
-
-/// Floats as whole numbers in order, so that neighbours differ by one.
-fn place(x: f64) -> i64 {
-    let bits = x.to_bits() as i64;
-    if bits < 0 {
-        i64::MIN - bits
-    } else {
-        bits
-    }
-}
 
 fn measure(
     what: &str,
@@ -33,7 +23,7 @@ fn measure(
         let (x, y) = sample(i, &mut random);
         let (a, b) = (fixed(x, y), std(x, y));
         assert!(!a.is_nan() && !b.is_nan(), "{what}: NaN at {x} {y}");
-        let distance = place(a).abs_diff(place(b));
+        let distance = distance(a, b);
         if distance == 0 {
             equal += 1;
         }

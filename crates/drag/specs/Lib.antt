@@ -2,4 +2,5 @@
 pub mod Constants
 pub mod Decimals
 pub mod Friction
+pub mod Walls
 pub mod Pressure

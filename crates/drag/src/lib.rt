@@ -2,6 +2,7 @@
 // as functions of their inputs, with the Rust's names, order of tests and order of operations. Each answers the value or the refusal.
 ghost use mathlib.Core.Path.{_≡_};
 ghost use Rattle.drag.specs.Friction.{machChecked, turbulentFriction, criticalReynolds, roughnessLimited, incompressibleSkinFriction, maxOf, skinFrictionCoefficient, bodyFrictionFormFactor};
+ghost use Rattle.drag.specs.Walls.{wallOf, limitedOn, frictionWhere, frictionOn};
 ghost use Rattle.drag.specs.Pressure.{stagnationRatio, stagnationPressureRatio, stagnationDragCoefficient, baseDragCoefficient, jointPressureDragCoefficient, boattailShare, boattailFactor};
 use aero_error::AeroError;
 use aero_error::Check;
@@ -103,6 +104,77 @@ pub fn max(a: f64, b: f64) -> f64
         b
     } else {
         a
+    }
+}
+
+// What a roughness alone decides of the friction: the critical Reynolds number (eq. 3.79), and the friction that it limits
+// (eq. 3.80). Worked out once, it serves every Reynolds and Mach number.
+pub struct Wall {
+    pub critical: Coefficient,
+    pub limited: f64,
+}
+
+pub fn wall_of(relative_roughness: f64) -> Wall
+    ensures { λ r. ⌜ r ≡ wallOf «relative_roughness» ⌝ }
+{
+    let critical = critical_reynolds(relative_roughness);
+    Wall {
+        critical,
+        limited: 0.032 * elementary::powf(relative_roughness, 0.2),
+    }
+}
+
+// `roughness_limited` on a wall.
+fn limited_on(wall: Wall, reynolds: f64) -> Limited
+    ensures { λ r. ⌜ r ≡ limitedOn wall reynolds ⌝ }
+{
+    if reynolds >= LOW_REYNOLDS {
+        let critical = wall.critical;
+        match critical {
+            Coefficient::Refused(refusal) => Limited::Refused(refusal),
+            Coefficient::Value(at) => Limited::Is(reynolds >= at),
+        }
+    } else {
+        Limited::Is(false)
+    }
+}
+
+// The friction on a wall once it is known whether its roughness limits it (eq. 3.81 to 3.84).
+fn friction_where(limited: bool, rough: f64, reynolds: f64, mach: f64) -> f64
+    ensures { λ r. ⌜ r ≡ frictionWhere limited rough reynolds mach ⌝ }
+{
+    let m2 = mach * mach;
+    if mach < 1.0 {
+        let slowed = 1.0 - 0.1 * m2;
+        return if limited {
+            rough * slowed
+        } else {
+            turbulent_friction(reynolds) * slowed
+        };
+    }
+    let turbulent = turbulent_friction(reynolds) / elementary::powf(1.0 + 0.15 * m2, 0.58);
+    if limited {
+        max(rough / (1.0 + 0.18 * m2), turbulent)
+    } else {
+        turbulent
+    }
+}
+
+// `skin_friction_coefficient` on a wall.
+pub fn friction_on(wall: Wall, reynolds: f64, mach: f64) -> Coefficient
+    ensures { λ r. ⌜ r ≡ frictionOn wall reynolds mach ⌝ }
+{
+    if let Check::Failed(refusal) = check_mach_any(mach) {
+        return Coefficient::Refused(refusal);
+    }
+    if let Check::Failed(refusal) = check_dimension(Quantity::Reynolds, reynolds, true) {
+        return Coefficient::Refused(refusal);
+    }
+    match limited_on(wall, reynolds) {
+        Limited::Refused(refusal) => Coefficient::Refused(refusal),
+        Limited::Is(limited) => {
+            Coefficient::Value(friction_where(limited, wall.limited, reynolds, mach))
+        }
     }
 }
 

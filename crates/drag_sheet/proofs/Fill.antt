@@ -47,6 +47,12 @@ module _ (g : Float → Float → Float) (xs ys out : List Float) (i : ℕ) wher
   pub columns-end : length xs ≤ i → length out ≤ i → take i out ++ columnwise g (drop i xs) (drop i ys) ≡ out
   columns-end a h = rw (drop-of-length-le xs a, take-all i out h, append-nil out)
 
+-- columns by two functions that agree
+pub columns-same : (f g : Float → Float → Float) → ((x y : Float) → f x y ≡ g x y) → (xs ys : List Float) → columnwise f xs ys ≡ columnwise g xs ys
+columns-same f g e [] ys = refl
+columns-same f g e (x ∷ xs) [] = refl
+columns-same f g e (x ∷ xs) (y ∷ ys) = let h = e x y in let t = columns-same f g e xs ys in cc
+
 -- two lists that agree from i on agree at i and after it
 pub agree : (xs ys : List Float) (i : ℕ) → i < length xs → i < length ys → drop i xs ≡ drop i ys → (getD xs i nan ≡ getD ys i nan) × (drop (suc i) xs ≡ drop (suc i) ys)
 agree xs ys i a b e =

@@ -2,6 +2,7 @@
 -- tests in document 01's order, the calls, the model that a list of calls is held against, and the statement over lists.
 pub mod Layout
 pub mod Formulas
+pub mod Ready
 pub mod Build
 pub mod Tests
 pub mod Calls

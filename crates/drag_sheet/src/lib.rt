@@ -10,6 +10,7 @@ ghost use lib.ListN.{length, take, replicate, drop};
 ghost use Rattle.elementary.specs.Constants.{0·0};
 ghost use Rattle.drag_sheet.specs.Layout.{rows, written, summed-rows, all-rows, part-rows};
 ghost use Rattle.drag_sheet.specs.Formulas.{preparedOf, cellOf, valueOf, withCurve, scaledBy, areaRatio, boattailDrag, bodyCell, wettedFrom, lastFrom};
+ghost use Rattle.drag_sheet.specs.Ready.{readyOf, readyCell};
 ghost use Rattle.drag_sheet.specs.Build.{Made, cellsOf, partRow, partRowsFrom, partsOf, frictionOf, baseOf, bodyRow, padded, columnwise, machsOf, reynoldsOf, totalRow, finished, build, Filled};
 ghost use mathlib.Core.List.{_++_};
 ghost use Rattle.drag_sheet.specs.Tests.{_then_, unless, inInterval, columnTest, columnsTest, bodyTest, settingsTest, partTest, partsTest, sheetTest};
@@ -18,6 +19,7 @@ use aero_error::AeroError;
 use aero_error::Check;
 use aero_error::Coefficient;
 use aero_error::Quantity;
+use drag::Wall;
 use nose_drag::Curve;
 use nose_drag::PressureDragCurve;
 use shapes::NoseShape;
@@ -202,17 +204,38 @@ fn value_of(c: Coefficient) -> f64
     }
 }
 
-// A cell of a whole body's row.
-fn body_cell(row: BodyRow, mach: f64, reynolds: f64) -> f64
-    ensures { λ r. ⌜ r ≡ bodyCell row mach reynolds ⌝ }
+// A whole body's row with what its roughness alone decides worked out, once for all columns.
+enum ReadyRow {
+    Friction { wall: Wall, form: f64, wetted: f64 },
+    Base { area: f64 },
+}
+
+fn ready_row(row: BodyRow) -> ReadyRow
+    ensures { λ r. ⌜ r ≡ readyOf row ⌝ }
 {
     match row {
         BodyRow::Friction {
             roughness,
             form,
             wetted,
-        } => value_of(drag::skin_friction_coefficient(reynolds, roughness, mach)) * form * wetted,
-        BodyRow::Base { area } => value_of(drag::base_drag_coefficient(mach)) * area,
+        } => ReadyRow::Friction {
+            wall: drag::wall_of(roughness),
+            form,
+            wetted,
+        },
+        BodyRow::Base { area } => ReadyRow::Base { area },
+    }
+}
+
+// A cell of a whole body's row.
+fn body_cell(row: ReadyRow, mach: f64, reynolds: f64) -> f64
+    ensures { λ r. ⌜ r ≡ readyCell row mach reynolds ⌝ }
+{
+    match row {
+        ReadyRow::Friction { wall, form, wetted } => {
+            value_of(drag::friction_on(wall, reynolds, mach)) * form * wetted
+        }
+        ReadyRow::Base { area } => value_of(drag::base_drag_coefficient(mach)) * area,
     }
 }
 
@@ -237,9 +260,10 @@ fn fill_body_row(row: BodyRow, machs: &[f64], reynolds: &[f64], out: &mut [f64])
     requires { ⌜ (length (now machs) ≡ length (now out)) × (length (now reynolds) ≡ length (now out)) ⌝ }
     ensures { λ _. ⌜ now (out .exit) ≡ columnwise (bodyCell row) (now (machs .entry)) (now (reynolds .entry)) ⌝ }
 {
+    let ready = ready_row(row);
     let mut i = 0usize;
     while i < out.len() {
-        out[i] = body_cell(row, machs[i], reynolds[i]);
+        out[i] = body_cell(ready, machs[i], reynolds[i]);
         i += 1;
     }
 }

@@ -31,9 +31,9 @@ use Rattle.elementary.proofs.Value.{normal-exact}
 -- ---- the whole number nearest to a root
 
 -- r is nearest to the root of s: the root is strictly between r - 1/2 and r + 1/2
-record Near (s r : ℕ) : Type 0 where
-  below : s ≤ r * r + r
-  above : r * r < s + r
+pub record Near (s r : ℕ) : Type 0 where
+  pub below : s ≤ r * r + r
+  pub above : r * r < s + r
 
 square-suc : (r : ℕ) → (r + 1) * (r + 1) ≡ r * r + 2 * r + 1
 square-suc r =
@@ -57,6 +57,40 @@ near k s p h = go (rooted k s h)
           | yes l ↦ subst (Near s) (nearest-up k s (rootOf k s) (z .0) (z .1) l) (near-up s (rootOf k s) (z .0) (z .1 .above) (z .1 .near) l)
           | no l ↦ (let d : z .0 ≤ rootOf k s = omega arith in subst (Near s) (nearest-down k s (rootOf k s) (z .0) (z .1) d) (near-down s (rootOf k s) (z .0) p (z .1 .above) d))
         ]
+
+-- no second number is near it
+not-over : (s q r : ℕ) → Near s q → Near s r → r ≤ q
+not-over s q r m n =
+    elim (decLe r q) [
+      | yes l ↦ l
+      | no l ↦
+          (let p : (q + 1) * r ≤ r * r = mul-le-mul-right r (omega arith) in
+          let e : (q + 1) * r ≡ q * r + 1 * r = add-mul q 1 r in
+          let o : q * (q + 1) ≤ q * r = mul-le-mul-left q (omega arith) in
+          let f : q * (q + 1) ≡ q * q + q * 1 = mul-add q q 1 in
+          absurd (omega (arith, m .below, n .above)))
+    ]
+
+pub near-is : (k s r : ℕ) → 0 < s → s < 4 ^ k → Near s r → r ≡ nearestRoot k s
+near-is k s r p h n =
+    let m = near k s p h in
+    let a = not-over s r (nearestRoot k s) n m in
+    let b = not-over s (nearestRoot k s) r m n in
+    omega arith
+
+-- r, or one of the two after it, by what s has above r × r
+module _ (s r left : ℕ) (p : 0 < r) (e : left + r * r ≡ s) where
+  pub near-first : left ≤ r → Near s r
+  near-first l = record { below = omega arith; above = omega arith }
+
+  pub near-second : r < left → left ≤ 3 * r + 2 → Near s (r + 1)
+  near-second a b = let q = square-suc r in record { below = omega arith; above = omega arith }
+
+  pub near-third : 3 * r + 2 < left → left ≤ 5 * r + 6 → Near s (r + 2)
+  near-third a b =
+      let q : (r + 2) * (r + 2) ≡ r * (r + 2) + 2 * (r + 2) = add-mul r 2 (r + 2) in
+      let t : r * (r + 2) ≡ r * r + r * 2 = mul-add r r 2 in
+      record { below = omega arith; above = omega arith }
 
 -- between a² and b² - b the root is from a up, and below b
 at-least : (s r a : ℕ) → Near s r → a * a ≤ s → a ≤ r

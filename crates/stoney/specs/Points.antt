@@ -84,18 +84,6 @@ part-of-all VonKarman = refl
 pub at-place : (nose : StoneyNose) (k : ℕ) → k < rangeOf nose .count → getD all-points (rangeOf nose .first + k) no-point ≡ getD (points nose) k no-point
 at-place nose k h = rw (← part-of-all nose, getD-take, getD-drop)
 
-pub as-many : (nose : StoneyNose) → length (points nose) ≡ rangeOf nose .count
-unfolding points
-as-many PowerQuarter = refl
-as-many PowerHalf = refl
-as-many PowerThreeQuarters = refl
-as-many ParabolaHalf = refl
-as-many ParabolaThreeQuarters = refl
-as-many Parabola = refl
-as-many Ellipsoid = refl
-as-many LvHaack = refl
-as-many VonKarman = refl
-
 pub range-within : (nose : StoneyNose) → (0 < rangeOf nose .count) × (rangeOf nose .first + rangeOf nose .count ≤ 149)
 range-within PowerQuarter = (lit< tt, lit≤ tt)
 range-within PowerHalf = (lit< tt, lit≤ tt)

@@ -2,8 +2,8 @@
 // table gives at any Mach number (nose_drag.rs, `StoneyNose`). Two flat arrays hold the points of all nine, and each nose has its range in them.
 ghost use mathlib.Core.Path.{_≡_};
 ghost use Rattle.stoney.specs.Points.{machAt, dragAt, rangeOf, firstMach};
-ghost use Rattle.stoney.specs.Lookup.{before, line, valueAndSlope};
-ghost use Rattle.stoney.specs.Search.{Rising, FirstAbove, Within, reading as readingOf};
+ghost use Rattle.stoney.specs.Lookup.{before, line, lookup, valueAndSlope};
+ghost use Rattle.stoney.specs.Stored.{Stored, stretch};
 use drag::SUBSONIC_MACH_LIMIT;
 
 // How many points the nine tables hold.
@@ -417,54 +417,37 @@ fn between(m0: f64, c0: f64, m1: f64, c1: f64, mach: f64) -> ValueAndSlope
     }
 }
 
-// The place, counted from `first`, of the first Mach number above `mach`, or `count` where none is: a search by halves, which is right because
-// Mach rises there. A NaN has no number above it.
-fn first_above(machs: &[f64; 149], first: usize, count: usize, mach: f64) -> usize
-    requires { ⌜ Rising (now machs) first count mach ⌝ }
-    ensures { λ r. ⌜ FirstAbove (now (machs .entry)) first count mach r ⌝ }
-{
-    let mut low = 0;
-    let mut high = count;
-    while low < high {
-        let middle = low + (high - low) / 2;
-        if mach < machs[first + middle] {
-            high = middle;
-        } else {
-            low = middle + 1;
-        }
-    }
-    low
-}
-
-// What the points from `first` on say at `mach`, `above` being the place of the first one above it.
-fn reading(
+// What the `count` points from `first` on say at `mach`: they are walked up to the first one above it. A NaN has no point above it.
+fn walk_points(
     machs: &[f64; 149],
     drags: &[f64; 149],
     first: usize,
     count: usize,
-    above: usize,
     mach: f64,
 ) -> ValueAndSlope
-    requires { ⌜ Within first count above ⌝ }
-    ensures { λ r. ⌜ r ≡ readingOf (now (machs .entry)) (now (drags .entry)) first count above mach ⌝ }
+    requires { ⌜ Stored first count ⌝ }
+    ensures { λ r. ⌜ r ≡ lookup (stretch (now (machs .entry)) (now (drags .entry)) first count) mach ⌝ }
 {
-    if above == 0 {
-        return before_first(machs[first], drags[first], mach);
+    let mut m0 = machs[first];
+    let mut c0 = drags[first];
+    if mach < m0 {
+        return before_first(m0, c0, mach);
     }
-    let last = first + (above - 1);
-    if above == count {
-        return ValueAndSlope {
-            value: drags[last],
-            slope: 0.0,
-        };
+    let mut place = 1;
+    while place < count {
+        let m1 = machs[first + place];
+        let c1 = drags[first + place];
+        if mach < m1 {
+            return between(m0, c0, m1, c1, mach);
+        }
+        m0 = m1;
+        c0 = c1;
+        place += 1;
     }
-    between(
-        machs[last],
-        drags[last],
-        machs[last + 1],
-        drags[last + 1],
-        mach,
-    )
+    ValueAndSlope {
+        value: c0,
+        slope: 0.0,
+    }
 }
 
 impl StoneyNose {
@@ -525,11 +508,19 @@ impl StoneyNose {
     pub fn value_and_slope(self, mach: f64) -> ValueAndSlope
         ensures { λ r. ⌜ r ≡ valueAndSlope self mach ⌝ }
     {
-        let range = self.points();
-        // A read of a constant array at a variable place copies the array first, so each is copied once here.
         let machs = MACH;
         let drags = DRAG;
-        let above = first_above(&machs, range.first, range.count, mach);
-        reading(&machs, &drags, range.first, range.count, above, mach)
+        // Each nose's walk has its own constant range, so that the compiler unrolls it and no array is left to copy.
+        match self {
+            StoneyNose::PowerQuarter => walk_points(&machs, &drags, 0, 12, mach),
+            StoneyNose::PowerHalf => walk_points(&machs, &drags, 12, 17, mach),
+            StoneyNose::PowerThreeQuarters => walk_points(&machs, &drags, 29, 18, mach),
+            StoneyNose::ParabolaHalf => walk_points(&machs, &drags, 47, 18, mach),
+            StoneyNose::ParabolaThreeQuarters => walk_points(&machs, &drags, 65, 18, mach),
+            StoneyNose::Parabola => walk_points(&machs, &drags, 83, 18, mach),
+            StoneyNose::Ellipsoid => walk_points(&machs, &drags, 101, 12, mach),
+            StoneyNose::LvHaack => walk_points(&machs, &drags, 113, 18, mach),
+            StoneyNose::VonKarman => walk_points(&machs, &drags, 131, 18, mach),
+        }
     }
 }

@@ -6,8 +6,8 @@ use Rattle.drag_sheet.proofs.body_cell.Tie as tie
 enum-known-row : tie.Need-enum-known-row
 enum-known-row c = search needs
 
-skin-friction-coefficient-requires : tie.Need-skin-friction-coefficient-requires
-skin-friction-coefficient-requires c κs = search needs
+friction-on-requires : tie.Need-friction-on-requires
+friction-on-requires c κs = search needs
 
 value-of-requires : tie.Need-value-of-requires
 value-of-requires c κs = search needs
@@ -22,7 +22,7 @@ value-of-requires-2 : tie.Need-value-of-requires-2
 value-of-requires-2 c κs = search needs
 
 returns : tie.Need-returns
-returns c = rw (c .before .before .before .row .given .1, ← c .before .skin-friction-coefficient .ensures, c .value-of .ensures)
+returns c = rw (c .before .before .before .row .given .1, ← c .before .friction-on .ensures, c .value-of .ensures)
 
 returns-2 : tie.Need-returns-2
 returns-2 c = rw (c .before .before .before .row2 .given .1, ← c .before .base-drag-coefficient .ensures, c .value-of2 .ensures)
@@ -32,7 +32,7 @@ body-cell-spec =
     tie.close
     (tie.spec
     enum-known-row
-    skin-friction-coefficient-requires
+    friction-on-requires
     value-of-requires
     enum-known-row-2
     base-drag-coefficient-requires

@@ -1,119 +1,85 @@
--- `elementary::nearest_root` meets its contract. The invariant: what has been read is n, of which `root` is the root so far, and n and `rest` together are
--- w × 2 ^ 10 × 4 ^ digit, so that after 53 digits n is w × 2 ^ 52. Assumes nothing.
-use mathlib.Core.Path.{_≡_, refl, sym, ap, _∙_, subst}
-use mathlib.Core.Logic.{⊎-elim}
-use Prim.Native.Nat.{ℕ, suc, _+_, _-_, _*_, _/_, _%_, _^_, _≤_, _<_}
-use native.Mathlib.Nat.{lt-of-lt-of-le, pow-suc, mul-assoc}
-use lib.Pow.{pow-mono}
+-- `elementary::nearest_root` meets its contract: whatever the guess, what is left over its square tells which number is nearest.
+use mathlib.Core.Path.{_≡_}
+use Prim.Native.Nat.{ℕ, _+_, _*_, _^_, _≤_}
+use native.Mathlib.Nat.{mul-pos}
 use native.Mathlib.Omega.{arith}
-use native.Mathlib.Numerals.{add-one}
 use borrow.Author.Needs.{needs}
-use Rattle.elementary.proofs.Root.{Rooted, at-start, next-even, next-odd, nearest-up, nearest-down}
+use Rattle.elementary.specs.Root.{nearestRoot}
+use Rattle.elementary.proofs.Nearest.{Near, near-is, near-first, near-second, near-third}
 use Rattle.elementary.proofs.nearest_root.Statement.{statement}
 use Rattle.elementary.proofs.nearest_root.Tie as tie
 
-record Read (w rest root left digit : ℕ) : Type 0 where
-  n : ℕ
-  rooted : Rooted digit n root left
-  split : n * 2 ^ 64 + rest ≡ w * 2 ^ 10 * 4 ^ digit
-  fits : rest < 2 ^ 64
-  turns : digit ≤ 53
+guess-requires : tie.Need-guess-requires
+guess-requires c κs = search needs
 
--- the root has at most 53 digits, and `left` at most one more
-small : {w rest root left digit : ℕ} → Read w rest root left digit → (root < 2 ^ 53) × (left ≤ 2 * root)
-small r = (lt-of-lt-of-le (r .rooted .short) (pow-mono (r .turns)), r .rooted .near)
+left-over-requires : tie.Need-left-over-requires
+left-over-requires c κs = search needs
 
--- one more turn: two digits are read, whatever they do to the root
-turn : {w rest root left digit root' left' : ℕ} (r : Read w rest root left digit) → digit < 53
-    → Rooted (suc digit) (4 * r .n + rest / 2 ^ 62) root' left' → Read w (4 * (rest % 2 ^ 62)) root' left' (digit + 1)
-turn {w} {rest} {root} {left} {digit} r h next = record {
-  n = 4 * r .n + rest / 2 ^ 62;
-  rooted = rw (add-one digit) next;
-  split = rw (add-one digit, pow-suc 4 digit, ← mul-assoc (w * 2 ^ 10) (4 ^ digit) 4) (omega (arith, r .split, r .fits));
-  fits = omega (arith, r .fits);
-  turns = omega arith;
-}
+mul-if1 : tie.Need-mul-if1
+mul-if1 c = search needs
 
--- what the loop has at its end is the root of w × 2 ^ 52, and what is left over it
-at-end : {w rest root left digit : ℕ} → Read w rest root left digit → 53 ≤ digit → Rooted 53 (w * 2 ^ 52) root left
-at-end {w} {rest} {root} {left} {digit} r h =
-    let d : digit ≡ 53 = omega (arith, r .turns) in
-    let s : r .n * 2 ^ 64 + rest ≡ w * 2 ^ 10 * 4 ^ 53 = subst (λ (k : ℕ). r .n * 2 ^ 64 + rest ≡ w * 2 ^ 10 * 4 ^ k) d (r .split) in
-    let n : r .n ≡ w * 2 ^ 52 = omega (arith, r .fits) in
-    subst (λ (k : ℕ). Rooted k (w * 2 ^ 52) root left) d (subst (λ (m : ℕ). Rooted digit m root left) n (r .rooted))
+add-if1 : tie.Need-add-if1
+add-if1 c = search needs
 
-abbrev Inv-loop : tie.InvT-loop
-Inv-loop w rest₀ root₀ left₀ digit₀ rest root left digit = Read w rest root left digit
+root-by-digits-requires : tie.Need-root-by-digits-requires
+root-by-digits-requires c κs = search needs
 
-abbrev μ-loop : tie.MeasureT-loop
-μ-loop w rest₀ root₀ left₀ digit₀ rest root left digit = 53 - digit
+returns : tie.Need-returns
+returns c = search needs
 
-mul-rest : tie.Need-mul-rest Inv-loop μ-loop
-mul-rest c = omega arith
+mul-if3 : tie.Need-mul-if3
+mul-if3 c = search needs
 
-loop-holds : tie.Need-loop-holds Inv-loop μ-loop
-loop-holds c = record { n = 0; rooted = at-start; split = omega arith; fits = omega arith; turns = omega arith }
+add-if3 : tie.Need-add-if3
+add-if3 c = search needs
 
-mul-read : tie.Need-mul-read Inv-loop μ-loop
-mul-read c = let s = small (c .before .loop .inv) in omega arith
+add-result : tie.Need-add-result
+add-result c = search needs
 
-add-read : tie.Need-add-read Inv-loop μ-loop
-add-read c = let s = small (c .before .loop .inv) in omega arith
+add-result-2 : tie.Need-add-result-2
+add-result-2 c = search needs
 
-mul-rest-2 : tie.Need-mul-rest-2 Inv-loop μ-loop
-mul-rest-2 c = let s = small (c .before .loop .inv) in omega arith
+-- where not too much is left over the guess's square, the one number that is near the root
+module _ (c : tie.After-left-over) (h : c .left-over .result ≤ 5 * c .before .guess .result + 6) where
+  left-is : c .left-over .result + c .before .guess .result * c .before .guess .result ≡ c .before .before .args .w * 2 ^ 52
+  left-is = c .left-over .ensures (omega arith)
 
-mul-if1 : tie.Need-mul-if1 Inv-loop μ-loop
-mul-if1 c = let s = small (c .before .loop .inv) in omega arith
+  found : (r : ℕ) → Near (c .before .before .args .w * 2 ^ 52) r → r ≡ nearestRoot 53 (c .before .before .args .w * 2 ^ 52)
+  found r n =
+      let p = mul-pos (c .before .guess .ensures .0) (c .before .guess .ensures .0) in
+      near-is 53 (c .before .before .args .w * 2 ^ 52) r (omega (arith, left-is)) (omega arith) n
 
-add-if1 : tie.Need-add-if1 Inv-loop μ-loop
-add-if1 c = let s = small (c .before .loop .inv) in omega arith
+returns-2 : tie.Need-returns-2
+returns-2 c =
+    let s = c .before .before in
+    found s (c .before .if1 .left) _ (near-first _ _ _ (s .before .guess .ensures .0) (left-is s (c .before .if1 .left)) (c .if2 .taken))
 
-mul-root : tie.Need-mul-root Inv-loop μ-loop
-mul-root c = let s = small (c .before .before .loop .inv) in omega arith
+returns-3 : tie.Need-returns-3
+returns-3 c =
+    let s = c .before .before .before in
+    let h = c .before .before .if1 .left in
+    found s h _ (near-second _ _ _ (s .before .guess .ensures .0) (left-is s h) (c .before .if2 .left) (c .if3 .taken))
 
-mul-left : tie.Need-mul-left Inv-loop μ-loop
-mul-left c = let s = small (c .before .before .loop .inv) in omega arith
-
-add-left : tie.Need-add-left Inv-loop μ-loop
-add-left c = let s = small (c .before .before .loop .inv) in omega arith
-
-sub-left : tie.Need-sub-left Inv-loop μ-loop
-sub-left c = let s = small (c .before .before .loop .inv) in omega arith
-
-mul-root-2 : tie.Need-mul-root-2 Inv-loop μ-loop
-mul-root-2 c = let s = small (c .before .before .loop .inv) in omega arith
-
-add-root : tie.Need-add-root Inv-loop μ-loop
-add-root c = let s = small (c .before .before .loop .inv) in omega arith
-
-add-digit : tie.Need-add-digit Inv-loop μ-loop
-add-digit c = omega arith
-
-loop-less : tie.Need-loop-less Inv-loop μ-loop
-loop-less c = omega arith
-
-loop-again : tie.Need-loop-again Inv-loop μ-loop
-loop-again c =
-    let at = c .before .before .loop in
-    let r = at .inv in
-    let read : at .rest / 2 ^ 62 < 4 = omega (arith, r .fits) in
-    let t = c .before .loop-test .taken in
-    ⊎-elim
-    (λ w. rw (w .1, w .2) (turn r t (next-even (at .digit) (r .n) (at .root) (at .left) (at .rest / 2 ^ 62) (r .rooted) read (w .0 .taken))))
-    (λ w. rw (w .1, w .2) (turn r t (next-odd (at .digit) (r .n) (at .root) (at .left) (at .rest / 2 ^ 62) (r .rooted) read (w .0 .left))))
-    (c .if1 .came)
-
-add-result : tie.Need-add-result Inv-loop μ-loop
-add-result c = let s = small (c .before .before .loop .inv) in omega arith
-
-returns : tie.Need-returns Inv-loop μ-loop
-returns c = nearest-up 53 _ _ _ (at-end (c .before .before .loop .inv) (c .before .loop-test .left)) (c .if2 .taken)
-
-returns-2 : tie.Need-returns-2 Inv-loop μ-loop
-returns-2 c = nearest-down 53 _ _ _ (at-end (c .before .before .loop .inv) (c .before .loop-test .left)) (c .if2 .left)
+returns-4 : tie.Need-returns-4
+returns-4 c =
+    let s = c .before .before .before in
+    let h = c .before .before .if1 .left in
+    found s h _ (near-third _ _ _ (s .before .guess .ensures .0) (left-is s h) (c .if3 .left) h)
 
 pub nearest-root-spec : {M : Type 1} → statement M
 nearest-root-spec =
     tie.close
-    (tie.spec Inv-loop μ-loop mul-rest loop-holds mul-read add-read mul-rest-2 mul-if1 add-if1 mul-root mul-left add-left sub-left mul-root-2 add-root add-digit loop-less loop-again add-result returns returns-2)
+    (tie.spec
+    guess-requires
+    left-over-requires
+    mul-if1
+    add-if1
+    root-by-digits-requires
+    returns
+    mul-if3
+    add-if3
+    add-result
+    add-result-2
+    returns-2
+    returns-3
+    returns-4)

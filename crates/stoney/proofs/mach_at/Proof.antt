@@ -5,7 +5,7 @@ use lib.Ieee.{ofBits, round}
 use lib.ListN.{List·getD-eq-default}
 use borrow.Author.Needs.{needs}
 use Rattle.stoney.specs.Points.{Point, points, all-points, no-point, machAt}
-use Rattle.stoney.specs.Search.{stored-at}
+use Rattle.stoney.specs.Stored.{stored-at}
 use Rattle.stoney.proofs.mach_at.Statement.{statement}
 use Rattle.stoney.proofs.mach_at.Tie as tie
 

@@ -1,0 +1,311 @@
+//! Random lists of calls on a sheet against the model: good and bad arguments, held sheets damaged
+//! on purpose, too few cells, foreign cells.
+
+use cobalnis::words::{
+    self, PartWords, SheetWords, FIRST_PART, MACHS, PARTS, PART_WORDS, REYNOLDS, SHEET_WORDS,
+};
+
+use super::tally::Row;
+use crate::arguments::Arguments;
+use crate::inputs::NANS;
+use crate::mirror;
+use crate::model::{COLUMNS, PLACES, ROWS};
+use crate::{answer_bits, cards::of_shape, model::Part};
+
+const BUFFER: usize = ROWS * COLUMNS + 8;
+
+/// The calls, as a row counts them.
+const CALLS: [&str; 5] = ["open", "insert", "replace", "remove", "set column"];
+
+/// A call with its arguments.
+#[derive(Debug, Clone, Copy)]
+enum Call {
+    Open,
+    Insert(usize, PartWords),
+    Replace(usize, PartWords),
+    Remove(usize),
+    SetColumn(usize, f64, f64),
+}
+
+impl Call {
+    fn row(self) -> usize {
+        match self {
+            Call::Open => 0,
+            Call::Insert(..) => 1,
+            Call::Replace(..) => 2,
+            Call::Remove(..) => 3,
+            Call::SetColumn(..) => 4,
+        }
+    }
+
+    fn of_port(self, sheet: &mut SheetWords, cells: &mut [f64]) -> (u32, u64) {
+        match self {
+            Call::Open => words::open(sheet, cells),
+            Call::Insert(place, part) => words::insert(sheet, place, &part, cells),
+            Call::Replace(place, part) => words::replace(sheet, place, &part, cells),
+            Call::Remove(place) => words::remove(sheet, place, cells),
+            Call::SetColumn(at, mach, reynolds) => {
+                words::set_column(sheet, at, mach, reynolds, cells)
+            }
+        }
+    }
+
+    fn of_model(self, sheet: &mut SheetWords, cells: &mut [f64]) -> (u32, u64) {
+        match self {
+            Call::Open => mirror::open(sheet, cells),
+            Call::Insert(place, part) => mirror::insert(sheet, place, &part, cells),
+            Call::Replace(place, part) => mirror::replace(sheet, place, &part, cells),
+            Call::Remove(place) => mirror::remove(sheet, place, cells),
+            Call::SetColumn(at, mach, reynolds) => {
+                mirror::set_column(sheet, at, mach, reynolds, cells)
+            }
+        }
+    }
+}
+
+/// A sheet and its cells, on which lists of calls are played.
+struct Play {
+    args: Arguments,
+    sheet: SheetWords,
+    cells: Vec<f64>,
+    rows: Vec<Row>,
+}
+
+/// At least so many calls of each kind.
+pub fn sheets(count: u64, seed: u64) -> Vec<Row> {
+    let mut play = Play {
+        args: Arguments::new(seed),
+        sheet: [0; SHEET_WORDS],
+        cells: vec![0.0; BUFFER],
+        rows: CALLS.map(|call| Row::new(format!("sheet: {call}"))).into(),
+    };
+    while play.rows[1..].iter().any(|row| row.inputs() < count) {
+        play.list();
+    }
+    while play.rows[0].inputs() < count {
+        play.foreign();
+        play.open();
+    }
+    play.rows
+}
+
+/// A part's words, NaNs as they come.
+fn words_of(part: &Part) -> PartWords {
+    let (number, parameter) = of_shape(part.shape);
+    let floats = [
+        parameter,
+        part.length,
+        part.aft_diameter,
+        part.joint_angle,
+        part.wetted_ratio,
+    ];
+    let mut words = [number; PART_WORDS];
+    for (word, x) in words[1..].iter_mut().zip(floats) {
+        *word = x.to_bits();
+    }
+    words
+}
+
+/// What a sheet's words say: those of columns and parts past the counts are nobody's.
+fn said(words: &SheetWords) -> Vec<u64> {
+    let columns = (words[3] as usize).min(COLUMNS);
+    let parts = (words[PARTS] as usize).min(PLACES);
+    let mut list = words[..MACHS + columns].to_vec();
+    list.extend(&words[REYNOLDS..REYNOLDS + columns]);
+    list.extend(&words[PARTS..FIRST_PART + PART_WORDS * parts]);
+    list
+}
+
+/// Whether all cells are equal, a NaN being equal to any NaN.
+fn same_cells(a: &[f64], b: &[f64]) -> bool {
+    a.iter()
+        .zip(b)
+        .all(|(&x, &y)| answer_bits(x) == answer_bits(y))
+}
+
+/// Whether all cells have the same bits.
+fn same_bits(a: &[f64], b: &[f64]) -> bool {
+    a.iter().zip(b).all(|(x, y)| x.to_bits() == y.to_bits())
+}
+
+impl Play {
+    /// The call on both sides, from the same sheet and cells.
+    fn call(&mut self, call: Call, lent: usize) {
+        let (given, before) = (self.sheet, self.cells.clone());
+        let (mut theirs, mut their_cells) = (given, before.clone());
+        let port = call.of_port(&mut self.sheet, &mut self.cells[..lent]);
+        let model = call.of_model(&mut theirs, &mut their_cells[..lent]);
+        let agree = port == model
+            && same_cells(&self.cells, &their_cells)
+            && if model.0 == 0 {
+                said(&self.sheet) == said(&theirs)
+            } else {
+                self.sheet == given && same_bits(&self.cells, &before)
+            };
+        self.rows[call.row()].note(model.0, agree, || {
+            format!("{call:x?}, {lent} lent, port {port:x?}, model {model:x?}, on {given:x?}")
+        });
+        if !agree {
+            // Go on from what the model has, so that one slip isn't told twice.
+            (self.sheet, self.cells) = (theirs, their_cells);
+        }
+    }
+
+    fn columns(&self) -> usize {
+        (self.sheet[3] as usize).min(COLUMNS)
+    }
+
+    fn parts(&self) -> usize {
+        (self.sheet[PARTS] as usize).min(PLACES)
+    }
+
+    /// Cells enough, or seldom too few.
+    fn lent(&mut self) -> usize {
+        let enough = ROWS * self.columns();
+        match self.args.below(60) {
+            0 => enough.saturating_sub(1),
+            1 => self.args.below(enough + 1),
+            2..=20 => enough,
+            _ => enough + self.args.below(BUFFER - enough + 1),
+        }
+    }
+
+    /// Foreign values in all cells, or in some of them.
+    fn foreign(&mut self) {
+        let list = [NANS[2], NANS[7], 1.0, -0.0, f64::INFINITY, -3.5, 1e308];
+        if self.args.one_in(3) {
+            for cell in &mut self.cells {
+                *cell = self.args.random.any();
+            }
+        } else {
+            for _ in 0..1 + self.args.below(4) {
+                let at = self.args.below(BUFFER);
+                self.cells[at] = self.args.random.pick(&list);
+            }
+        }
+    }
+
+    /// Settings of few columns mostly, and the open call, which is refused now and then.
+    fn open(&mut self) {
+        let columns = match self.args.below(12) {
+            0 => self.args.below(COLUMNS + 1),
+            1 => COLUMNS,
+            _ => self.args.below(5),
+        };
+        let bad = if self.args.one_in(8) { 4 } else { u64::MAX };
+        let sizes = [
+            self.args.house(0.001, 100.0, 1.0, bad),
+            self.args.house(0.0, 1.0, 1e-4, bad),
+            match self.args.below(12) {
+                0 => self.args.random.any(),
+                1 => self
+                    .args
+                    .random
+                    .pick(&[0.0, -0.0, NANS[5], f64::INFINITY, -1.0]),
+                _ => self.args.random.between(0.5, 30.0),
+            },
+        ];
+        for (word, x) in self.sheet.iter_mut().zip(sizes) {
+            *word = x.to_bits();
+        }
+        self.sheet[3] = match self.args.below(100) {
+            0 => 33,
+            1 => self.args.random.bits(),
+            _ => columns as u64,
+        };
+        for at in 0..columns {
+            let column = self.args.a_column(bad.saturating_mul(columns as u64));
+            self.sheet[MACHS + at] = column.mach.to_bits();
+            self.sheet[REYNOLDS + at] = column.reynolds.to_bits();
+        }
+        let lent = self.lent();
+        self.call(Call::Open, lent);
+    }
+
+    /// A part's words; the shape's number is none of the six seldom.
+    fn part(&mut self) -> PartWords {
+        let mut words = words_of(&self.args.a_part(40, 40));
+        if self.args.one_in(150) {
+            words[0] = [6, 7, 255, 1 << 32, u64::MAX][self.args.below(5)];
+        }
+        if self.args.one_in(100) {
+            let at = 1 + self.args.below(5);
+            words[at] = self.args.random.bits();
+        }
+        words
+    }
+
+    fn a_call(&mut self) -> Call {
+        let (parts, columns) = (self.parts(), self.columns());
+        match self.args.below(16) {
+            0..=4 => {
+                let place = match self.args.below(6) {
+                    0 => self.args.a_place(parts),
+                    _ => self.args.below(parts + 1),
+                };
+                Call::Insert(place, self.part())
+            }
+            5..=8 => Call::Replace(self.args.a_place(parts), self.part()),
+            9..=11 => Call::Remove(self.args.a_place(parts)),
+            12 if self.args.one_in(12) => Call::Open,
+            _ => {
+                let column = self.args.a_column(30);
+                let at = self.args.a_place(columns);
+                Call::SetColumn(at, column.mach, column.reynolds)
+            }
+        }
+    }
+
+    /// Changes words of the sheet as no call would.
+    fn damage(&mut self) {
+        for _ in 0..1 + self.args.below(3) {
+            let any = self.args.random.bits();
+            let columns = self.columns().max(1);
+            let place = FIRST_PART + PART_WORDS * self.args.below(self.parts().max(1));
+            match self.args.below(10) {
+                0 => self.sheet[self.args.below(SHEET_WORDS)] = any,
+                1 => self.sheet[3] = [33, 32, any, 1 << 63, u64::MAX][self.args.below(5)],
+                2 => self.sheet[PARTS] = [17, 16, any, 1 << 63, u64::MAX][self.args.below(5)],
+                3 => self.sheet[self.args.below(3)] = NANS[self.args.below(8)].to_bits(),
+                4 => {
+                    let column = self.args.a_column(2);
+                    let at = self.args.below(columns);
+                    self.sheet[MACHS + at] = column.mach.to_bits();
+                    self.sheet[REYNOLDS + at] = column.reynolds.to_bits();
+                }
+                // A shape that isn't there, in use or past the count.
+                5 => {
+                    let place = FIRST_PART + PART_WORDS * self.args.below(PLACES);
+                    self.sheet[place] = [6, 255, 1 << 32, any | 8][self.args.below(4)];
+                }
+                6 => self.sheet[place + 1 + self.args.below(5)] = any,
+                _ => {
+                    let part = words_of(&self.args.a_part(3, 3));
+                    self.sheet[place..place + PART_WORDS].copy_from_slice(&part);
+                }
+            }
+        }
+    }
+
+    /// An open, then calls of all kinds.
+    fn list(&mut self) {
+        self.foreign();
+        self.open();
+        for _ in 0..20 + self.args.below(60) {
+            if self.args.one_in(25) {
+                self.foreign();
+            }
+            let whole = self.sheet;
+            let damaged = self.args.one_in(10);
+            if damaged {
+                self.damage();
+            }
+            let call = self.a_call();
+            let lent = self.lent();
+            self.call(call, lent);
+            if damaged {
+                self.sheet = whole;
+            }
+        }
+    }
+}

@@ -1,0 +1,530 @@
+/* The drag of a model rocket's noses, skin and base, and the sheet that adds
+ * them: the C interface of `rt staticlib cobalnis`, for C11.
+ *
+ * First come the functions of the library, on numbers and words; after them
+ * structs that lie in memory as those words do, and typed functions over
+ * both. A program that uses the typed ones never counts words.
+ *
+ * An answer is a status: 0 is accepted, else the refusal's number plus 256
+ * times the code of refusal 1 (cobalnis_number, cobalnis_code);
+ * COBALNIS_NO_SUCH is for a number that names no formula, shape, nose or
+ * quantity, and then nothing is written. Floats are handed out by their bits,
+ * 7ff8000000000000 for every NaN.
+ *
+ * No two of the memory areas passed to one call may overlap, and no pointer
+ * may be null or unaligned (an empty slice has any aligned pointer), but for
+ * the `value` of the typed functions, which may be null. */
+#ifndef COBALNIS_H
+#define COBALNIS_H
+
+#include <stdbool.h>
+#include <stddef.h>
+#include <stdint.h>
+#include <string.h>
+
+#define COBALNIS_NO_SUCH 65535u
+
+enum {
+    COBALNIS_COLUMNS = 32,     /* columns that a sheet has room for */
+    COBALNIS_PLACES = 16,      /* parts that it has room for */
+    COBALNIS_ROWS = 19,        /* 16 part rows, friction, base, total */
+    COBALNIS_PART_WORDS = 6,
+    COBALNIS_SHEET_WORDS = 165,
+    COBALNIS_LONGEST_TEXT = 11033 /* what cobalnis_print needs */
+};
+
+/* Refusal numbers. */
+enum {
+    COBALNIS_DOMAIN = 1,        /* a number that no formula takes; has a code and a value */
+    COBALNIS_OGIVE_RATIO = 2,   /* an ogive's radius ratio below 1, infinite or NaN */
+    COBALNIS_HAACK_ABOVE = 3,   /* a Haack parameter above 1/3 */
+    COBALNIS_ENDED = 4,         /* bytes end inside a card, or there are none */
+    COBALNIS_RESERVED = 5,      /* a reserved bit, or no such shape */
+    COBALNIS_FIELD = 6,         /* a card's field is missing or barred */
+    COBALNIS_MANY_COLUMNS = 7,  /* more than 32 columns */
+    COBALNIS_NO_PLACE = 8,      /* no such place, column or point */
+    COBALNIS_MANY_PARTS = 9,    /* a 17th part */
+    COBALNIS_FEW_CELLS = 10,    /* too few cells, or too short an output */
+    COBALNIS_HOUSE_INTERVAL = 11 /* a size outside what the clubs allow */
+};
+
+/* Codes of refusal 1, and what cobalnis_check_dimension is asked about. */
+enum {
+    COBALNIS_MACH = 1,
+    COBALNIS_FINENESS,
+    COBALNIS_JOINT_ANGLE,
+    COBALNIS_POWER_EXPONENT,
+    COBALNIS_PARABOLIC_PARAMETER,
+    COBALNIS_HAACK_PARAMETER,
+    COBALNIS_ELLIPSOID_FINENESS,
+    COBALNIS_ELLIPSOID_MACH,
+    COBALNIS_OGIVE_KAPPA,
+    COBALNIS_FINENESS_THREE_DRAG,
+    COBALNIS_BLUNT_DRAG,
+    COBALNIS_TRANSONIC_LOWER_BOUND,
+    COBALNIS_DRAG_AT_REST,
+    COBALNIS_DRAG_AT_LOWER_BOUND,
+    COBALNIS_SLOPE_AT_LOWER_BOUND,
+    COBALNIS_MACH_BELOW_LOWER_BOUND,
+    COBALNIS_REYNOLDS,
+    COBALNIS_ROUGHNESS,
+    COBALNIS_BODY_FINENESS,
+    COBALNIS_BOATTAIL_LENGTH,
+    COBALNIS_BOATTAIL_AFT,
+    COBALNIS_BOATTAIL_FORE
+};
+
+/* Shapes; the last is for cobalnis_curve alone. */
+enum {
+    COBALNIS_CONICAL,
+    COBALNIS_OGIVE,
+    COBALNIS_ELLIPTICAL,
+    COBALNIS_POWER_SERIES,
+    COBALNIS_PARABOLIC_SERIES,
+    COBALNIS_HAACK,
+    COBALNIS_STEP
+};
+
+/* Stoney's measured noses. */
+enum {
+    COBALNIS_NOSE_POWER_QUARTER,
+    COBALNIS_NOSE_POWER_HALF,
+    COBALNIS_NOSE_POWER_THREE_QUARTERS,
+    COBALNIS_NOSE_PARABOLA_HALF,
+    COBALNIS_NOSE_PARABOLA_THREE_QUARTERS,
+    COBALNIS_NOSE_PARABOLA,
+    COBALNIS_NOSE_ELLIPSOID,
+    COBALNIS_NOSE_LV_HAACK,
+    COBALNIS_NOSE_VON_KARMAN
+};
+
+/* ---- the library's functions */
+
+/* The formula of a number, as the typed functions below name them; bits: its
+ * value, or the value refused. Arguments that it has no use for are not
+ * looked at. */
+uint32_t cobalnis_formula(uint32_t which, double a, double b, double c, double d, double e,
+                          uint64_t *bits);
+
+/* Passes a finite value above 0, and a zero where allowed. */
+uint32_t cobalnis_check_dimension(uint32_t what, double value, bool allow_zero, uint64_t *bits);
+
+/* Whether a shape takes any of the closed form for cones: 1 yes, 0 no. */
+uint32_t cobalnis_takes_cone_formula(uint64_t shape, double parameter);
+
+/* Mach number and drag of a nose's measured point. */
+uint32_t cobalnis_nose_point(uint32_t nose, size_t place, uint64_t out[2]);
+
+/* Value and slope in a nose's table, and the table's first Mach number. */
+uint32_t cobalnis_nose_lookup(uint32_t nose, double mach, uint64_t out[3]);
+
+/* Builds a curve and answers its coefficient at each Mach number; about: the
+ * value refused, the drag at rest, the transonic lower bound. */
+uint32_t cobalnis_curve(uint64_t shape, double parameter, double fineness_ratio,
+                        double joint_angle, const double *machs, size_t n, uint64_t *out, size_t m,
+                        uint64_t about[3]);
+
+/* The sheet's calls. Accepted: the words are the sheet handed back. Refused:
+ * words and cells are untouched, and bits is the value refused. Open looks at
+ * the settings' words only and empties the design. */
+uint32_t cobalnis_open(uint64_t sheet[165], double *cells, size_t lent, uint64_t *bits);
+uint32_t cobalnis_insert(uint64_t sheet[165], size_t place, const uint64_t part[6], double *cells,
+                         size_t lent, uint64_t *bits);
+uint32_t cobalnis_replace(uint64_t sheet[165], size_t place, const uint64_t part[6], double *cells,
+                          size_t lent, uint64_t *bits);
+uint32_t cobalnis_remove(uint64_t sheet[165], size_t place, double *cells, size_t lent,
+                         uint64_t *bits);
+uint32_t cobalnis_set_column(uint64_t sheet[165], size_t column, double mach, double reynolds,
+                             double *cells, size_t lent, uint64_t *bits);
+
+/* Reads a card from the byte `at` on; next: where it ends. A settings card
+ * fills a sheet's first 68 words. Refused: nothing is written. */
+uint32_t cobalnis_read_settings(const uint8_t *bytes, size_t n, size_t at, uint64_t sheet[165],
+                                size_t *next);
+uint32_t cobalnis_read_part(const uint8_t *bytes, size_t n, size_t at, uint64_t part[6],
+                            size_t *next);
+
+/* What the program `sheet` prints for these bytes, and how many bytes that
+ * is; 0 where out has fewer than COBALNIS_LONGEST_TEXT. */
+size_t cobalnis_print(const uint8_t *bytes, size_t n, uint8_t *out, size_t m);
+
+/* ---- structs that lie as the words do */
+
+typedef struct {
+    uint64_t shape;
+    double parameter; /* 0 for a conical and an elliptical one */
+    double length;
+    double aft_diameter;
+    double joint_angle;
+    double wetted_ratio;
+} cobalnis_part;
+
+typedef struct {
+    double reference_diameter;
+    double roughness;
+    double body_fineness;
+    uint64_t columns;
+    double mach[COBALNIS_COLUMNS];
+    double reynolds[COBALNIS_COLUMNS];
+    uint64_t parts;
+    cobalnis_part part[COBALNIS_PLACES];
+} cobalnis_sheet;
+
+/* A curve's arguments, and what is known of it. The library keeps no curve:
+ * each call builds it. */
+typedef struct {
+    uint64_t shape;
+    double parameter;
+    double fineness_ratio;
+    double joint_angle;
+    double rest_coefficient;
+    double transonic_lower_bound;
+} cobalnis_pressure_drag_curve;
+
+_Static_assert(sizeof(double) == 8 && sizeof(uint64_t) == 8, "a word has 8 bytes");
+_Static_assert(sizeof(cobalnis_part) == 8 * COBALNIS_PART_WORDS, "a part is 6 words");
+_Static_assert(offsetof(cobalnis_part, wetted_ratio) == 8 * 5, "the last word of a part");
+_Static_assert(sizeof(cobalnis_sheet) == 8 * COBALNIS_SHEET_WORDS, "a sheet is 165 words");
+_Static_assert(offsetof(cobalnis_sheet, columns) == 8 * 3, "the number of columns");
+_Static_assert(offsetof(cobalnis_sheet, mach) == 8 * 4, "Machs");
+_Static_assert(offsetof(cobalnis_sheet, reynolds) == 8 * 36, "Reynolds numbers");
+_Static_assert(offsetof(cobalnis_sheet, parts) == 8 * 68, "the number of parts");
+_Static_assert(offsetof(cobalnis_sheet, part) == 8 * 69, "the parts");
+
+/* ---- statuses and bits */
+
+/* The refusal's number, 0 accepted. */
+static inline uint32_t cobalnis_number(uint32_t status)
+{
+    return status & 255u;
+}
+
+/* Refusal 1's code, else 0. */
+static inline uint32_t cobalnis_code(uint32_t status)
+{
+    return status >> 8;
+}
+
+/* The number of these bits. */
+static inline double cobalnis_double(uint64_t bits)
+{
+    double x;
+    memcpy(&x, &bits, sizeof x);
+    return x;
+}
+
+/* A status, with the value for whoever asked for it. */
+static inline uint32_t cobalnis_answer(uint32_t status, uint64_t bits, double *value)
+{
+    if (value != NULL && status != COBALNIS_NO_SUCH)
+        *value = cobalnis_double(bits);
+    return status;
+}
+
+/* The library is compiled apart and sees memory, not types: a struct is its
+ * words there, a double its bits. */
+static inline uint64_t *cobalnis_words_of(void *memory)
+{
+    return (uint64_t *)memory;
+}
+
+/* ---- formulas: value is the answer, or the value refused */
+
+static inline uint32_t cobalnis_ask(uint32_t which, double a, double b, double c, double d,
+                                    double e, double *value)
+{
+    uint64_t bits = 0;
+    uint32_t status = cobalnis_formula(which, a, b, c, d, e, &bits);
+    return cobalnis_answer(status, bits, value);
+}
+
+/* The fixed steps refuse nothing. */
+static inline double cobalnis_step_of(uint32_t which, double a, double b)
+{
+    double value = 0;
+    cobalnis_ask(which, a, b, 0, 0, 0, &value);
+    return value;
+}
+
+static inline double cobalnis_sqrt(double x)
+{
+    return cobalnis_step_of(0, x, 0);
+}
+
+static inline double cobalnis_ln(double x)
+{
+    return cobalnis_step_of(1, x, 0);
+}
+
+static inline double cobalnis_exp(double y)
+{
+    return cobalnis_step_of(2, y, 0);
+}
+
+static inline double cobalnis_powf(double x, double y)
+{
+    return cobalnis_step_of(3, x, y);
+}
+
+static inline double cobalnis_sin(double x)
+{
+    return cobalnis_step_of(4, x, 0);
+}
+
+/* value: the Mach number refused, or 0. */
+static inline uint32_t cobalnis_check_mach_any(double mach, double *value)
+{
+    return cobalnis_ask(5, mach, 0, 0, 0, 0, value);
+}
+
+static inline uint32_t cobalnis_critical_reynolds(double relative_roughness, double *value)
+{
+    return cobalnis_ask(6, relative_roughness, 0, 0, 0, 0, value);
+}
+
+static inline uint32_t cobalnis_incompressible_skin_friction(double reynolds,
+                                                             double relative_roughness,
+                                                             double *value)
+{
+    return cobalnis_ask(7, reynolds, relative_roughness, 0, 0, 0, value);
+}
+
+static inline uint32_t cobalnis_skin_friction_coefficient(double reynolds,
+                                                          double relative_roughness, double mach,
+                                                          double *value)
+{
+    return cobalnis_ask(8, reynolds, relative_roughness, mach, 0, 0, value);
+}
+
+static inline uint32_t cobalnis_body_friction_form_factor(double fineness_ratio, double *value)
+{
+    return cobalnis_ask(9, fineness_ratio, 0, 0, 0, 0, value);
+}
+
+static inline uint32_t cobalnis_stagnation_pressure_ratio(double mach, double *value)
+{
+    return cobalnis_ask(10, mach, 0, 0, 0, 0, value);
+}
+
+static inline uint32_t cobalnis_stagnation_drag_coefficient(double mach, double *value)
+{
+    return cobalnis_ask(11, mach, 0, 0, 0, 0, value);
+}
+
+static inline uint32_t cobalnis_base_drag_coefficient(double mach, double *value)
+{
+    return cobalnis_ask(12, mach, 0, 0, 0, 0, value);
+}
+
+static inline uint32_t cobalnis_joint_pressure_drag_coefficient(double joint_angle, double *value)
+{
+    return cobalnis_ask(13, joint_angle, 0, 0, 0, 0, value);
+}
+
+static inline uint32_t cobalnis_boattail_factor(double length, double fore_diameter,
+                                                double aft_diameter, double *value)
+{
+    return cobalnis_ask(14, length, fore_diameter, aft_diameter, 0, 0, value);
+}
+
+static inline uint32_t cobalnis_subsonic_pressure_drag_coefficient(double c_rest, double c_low,
+                                                                   double slope_low,
+                                                                   double mach_low, double mach,
+                                                                   double *value)
+{
+    return cobalnis_ask(15, c_rest, c_low, slope_low, mach_low, mach, value);
+}
+
+static inline uint32_t cobalnis_ogive_pressure_drag_factor(double kappa, double *value)
+{
+    return cobalnis_ask(16, kappa, 0, 0, 0, 0, value);
+}
+
+static inline uint32_t cobalnis_fineness_scaled_pressure_drag(double c3, double c0,
+                                                              double fineness_ratio, double *value)
+{
+    return cobalnis_ask(17, c3, c0, fineness_ratio, 0, 0, value);
+}
+
+static inline uint32_t cobalnis_ellipsoid_subsonic_pressure_drag(double fineness_ratio,
+                                                                 double mach, double *value)
+{
+    return cobalnis_ask(18, fineness_ratio, mach, 0, 0, 0, value);
+}
+
+/* cobalnis_stagnation_pressure_ratio without its test. */
+static inline double cobalnis_stagnation_ratio(double mach)
+{
+    return cobalnis_step_of(19, mach, 0);
+}
+
+/* value: the value refused, or 0. */
+static inline uint32_t cobalnis_check(uint32_t what, double x, bool allow_zero, double *value)
+{
+    uint64_t bits = 0;
+    uint32_t status = cobalnis_check_dimension(what, x, allow_zero, &bits);
+    return cobalnis_answer(status, bits, value);
+}
+
+/* ---- measured noses */
+
+/* Refusal 8 past the last point, and then nothing is written. */
+static inline uint32_t cobalnis_stoney_point(uint32_t nose, size_t place, double *mach,
+                                             double *drag)
+{
+    uint64_t out[2] = {0, 0};
+    uint32_t status = cobalnis_nose_point(nose, place, out);
+    if (status == 0) {
+        *mach = cobalnis_double(out[0]);
+        *drag = cobalnis_double(out[1]);
+    }
+    return status;
+}
+
+static inline uint32_t cobalnis_stoney_value_and_slope(uint32_t nose, double mach, double *value,
+                                                       double *slope)
+{
+    uint64_t out[3] = {0, 0, 0};
+    uint32_t status = cobalnis_nose_lookup(nose, mach, out);
+    if (status == 0) {
+        *value = cobalnis_double(out[0]);
+        *slope = cobalnis_double(out[1]);
+    }
+    return status;
+}
+
+static inline uint32_t cobalnis_stoney_first_mach(uint32_t nose, double *mach)
+{
+    uint64_t out[3] = {0, 0, 0};
+    uint32_t status = cobalnis_nose_lookup(nose, 0, out);
+    return cobalnis_answer(status, out[2], mach);
+}
+
+/* ---- curves */
+
+/* The curve of a shape; refused: value is the value refused, and the curve is
+ * not written. */
+static inline uint32_t cobalnis_curve_new(uint64_t shape, double parameter, double fineness_ratio,
+                                          double joint_angle, cobalnis_pressure_drag_curve *curve,
+                                          double *value)
+{
+    uint64_t none = 0, about[3] = {0, 0, 0};
+    double no_mach = 0;
+    uint32_t status = cobalnis_curve(shape, parameter, fineness_ratio, joint_angle, &no_mach, 0,
+                                     &none, 0, about);
+    if (status == 0) {
+        curve->shape = shape;
+        curve->parameter = parameter;
+        curve->fineness_ratio = fineness_ratio;
+        curve->joint_angle = joint_angle;
+        curve->rest_coefficient = cobalnis_double(about[1]);
+        curve->transonic_lower_bound = cobalnis_double(about[2]);
+    }
+    return cobalnis_answer(status, about[0], value);
+}
+
+/* A flat face's curve, never refused. */
+static inline cobalnis_pressure_drag_curve cobalnis_curve_step(void)
+{
+    cobalnis_pressure_drag_curve curve = {COBALNIS_STEP, 0, 0, 0, 0, 0};
+    cobalnis_curve_new(COBALNIS_STEP, 0, 0, 0, &curve, NULL);
+    return curve;
+}
+
+/* The coefficients at n Mach numbers, of which out takes as many; refused:
+ * value is the first Mach number that is refused. */
+static inline uint32_t cobalnis_curve_coefficients(const cobalnis_pressure_drag_curve *curve,
+                                                   const double *machs, size_t n, double *out,
+                                                   double *value)
+{
+    uint64_t about[3] = {0, 0, 0};
+    uint32_t status = cobalnis_curve(curve->shape, curve->parameter, curve->fineness_ratio,
+                                     curve->joint_angle, machs, n, cobalnis_words_of(out), n,
+                                     about);
+    return cobalnis_answer(status, about[0], value);
+}
+
+/* value: the coefficient, or the Mach number refused. */
+static inline uint32_t cobalnis_curve_coefficient(const cobalnis_pressure_drag_curve *curve,
+                                                  double mach, double *value)
+{
+    double coefficient = 0, refused = 0;
+    uint32_t status = cobalnis_curve_coefficients(curve, &mach, 1, &coefficient, &refused);
+    if (value != NULL)
+        *value = status == 0 ? coefficient : refused;
+    return status;
+}
+
+/* ---- the sheet; value is the value refused */
+
+static inline uint32_t cobalnis_sheet_open(cobalnis_sheet *sheet, double *cells, size_t lent,
+                                           double *value)
+{
+    uint64_t bits = 0;
+    uint32_t status = cobalnis_open(cobalnis_words_of(sheet), cells, lent, &bits);
+    return cobalnis_answer(status, bits, value);
+}
+
+static inline uint32_t cobalnis_sheet_insert(cobalnis_sheet *sheet, size_t place,
+                                             cobalnis_part part, double *cells, size_t lent,
+                                             double *value)
+{
+    uint64_t bits = 0;
+    uint32_t status = cobalnis_insert(cobalnis_words_of(sheet), place, cobalnis_words_of(&part),
+                                      cells, lent, &bits);
+    return cobalnis_answer(status, bits, value);
+}
+
+static inline uint32_t cobalnis_sheet_replace(cobalnis_sheet *sheet, size_t place,
+                                              cobalnis_part part, double *cells, size_t lent,
+                                              double *value)
+{
+    uint64_t bits = 0;
+    uint32_t status = cobalnis_replace(cobalnis_words_of(sheet), place, cobalnis_words_of(&part),
+                                       cells, lent, &bits);
+    return cobalnis_answer(status, bits, value);
+}
+
+static inline uint32_t cobalnis_sheet_remove(cobalnis_sheet *sheet, size_t place, double *cells,
+                                             size_t lent, double *value)
+{
+    uint64_t bits = 0;
+    uint32_t status = cobalnis_remove(cobalnis_words_of(sheet), place, cells, lent, &bits);
+    return cobalnis_answer(status, bits, value);
+}
+
+static inline uint32_t cobalnis_sheet_set_column(cobalnis_sheet *sheet, size_t column, double mach,
+                                                 double reynolds, double *cells, size_t lent,
+                                                 double *value)
+{
+    uint64_t bits = 0;
+    uint32_t status = cobalnis_set_column(cobalnis_words_of(sheet), column, mach, reynolds, cells,
+                                          lent, &bits);
+    return cobalnis_answer(status, bits, value);
+}
+
+/* The cells of a row, one a column: row 0 to 15 a part's, then these. */
+enum { COBALNIS_FRICTION = 16, COBALNIS_BASE = 17, COBALNIS_TOTAL = 18 };
+
+static inline const double *cobalnis_sheet_row(const cobalnis_sheet *sheet, size_t row,
+                                               const double *cells)
+{
+    return cells + row * (size_t)sheet->columns;
+}
+
+/* ---- cards */
+
+/* Settings into a sheet, which is then to be opened. */
+static inline uint32_t cobalnis_sheet_read_settings(const uint8_t *bytes, size_t n, size_t at,
+                                                    cobalnis_sheet *sheet, size_t *next)
+{
+    return cobalnis_read_settings(bytes, n, at, cobalnis_words_of(sheet), next);
+}
+
+static inline uint32_t cobalnis_part_read(const uint8_t *bytes, size_t n, size_t at,
+                                          cobalnis_part *part, size_t *next)
+{
+    return cobalnis_read_part(bytes, n, at, cobalnis_words_of(part), next);
+}
+
+#endif

@@ -1,0 +1,141 @@
+//! One function for each formula, under the original's name and with its order of arguments.
+
+use crate::{c, Refusal};
+
+/// A formula by its number, the arguments that it doesn't look at being 0.
+fn ask<const N: usize>(which: u32, arguments: [f64; N]) -> Result<f64, Refusal> {
+    let mut all = [0.0; 5];
+    all[..N].copy_from_slice(&arguments);
+    let (status, bits) = c::formula(which, all);
+    Refusal::of(status, bits)?;
+    Ok(f64::from_bits(bits))
+}
+
+/// One of the fixed steps, which refuse nothing.
+fn step<const N: usize>(which: u32, arguments: [f64; N]) -> f64 {
+    match ask(which, arguments) {
+        Ok(value) => value,
+        Err(_) => unreachable!("a fixed step refuses nothing"),
+    }
+}
+
+/// SQRT: the binary64 number nearest the exact root.
+pub fn sqrt(x: f64) -> f64 {
+    step(0, [x])
+}
+
+/// LN.
+pub fn ln(x: f64) -> f64 {
+    step(1, [x])
+}
+
+/// EXP.
+pub fn exp(y: f64) -> f64 {
+    step(2, [y])
+}
+
+/// POW: `x` to the power `y`.
+pub fn powf(x: f64, y: f64) -> f64 {
+    step(3, [x, y])
+}
+
+/// SIN.
+pub fn sin(x: f64) -> f64 {
+    step(4, [x])
+}
+
+/// Passes a finite Mach number that isn't below 0.
+pub fn check_mach_any(mach: f64) -> Result<(), Refusal> {
+    ask(5, [mach]).map(|_| ())
+}
+
+/// The Reynolds number from which roughness decides the friction.
+pub fn critical_reynolds(relative_roughness: f64) -> Result<f64, Refusal> {
+    ask(6, [relative_roughness])
+}
+
+/// Skin friction without the effect of speed.
+pub fn incompressible_skin_friction(
+    reynolds: f64,
+    relative_roughness: f64,
+) -> Result<f64, Refusal> {
+    ask(7, [reynolds, relative_roughness])
+}
+
+/// Skin friction at a Mach number.
+pub fn skin_friction_coefficient(
+    reynolds: f64,
+    relative_roughness: f64,
+    mach: f64,
+) -> Result<f64, Refusal> {
+    ask(8, [reynolds, relative_roughness, mach])
+}
+
+/// The factor of a body's friction for its fineness.
+pub fn body_friction_form_factor(fineness_ratio: f64) -> Result<f64, Refusal> {
+    ask(9, [fineness_ratio])
+}
+
+/// Stagnation pressure over dynamic pressure.
+pub fn stagnation_pressure_ratio(mach: f64) -> Result<f64, Refusal> {
+    ask(10, [mach])
+}
+
+/// The drag of a blunt cylinder.
+pub fn stagnation_drag_coefficient(mach: f64) -> Result<f64, Refusal> {
+    ask(11, [mach])
+}
+
+/// The drag of a blunt end.
+pub fn base_drag_coefficient(mach: f64) -> Result<f64, Refusal> {
+    ask(12, [mach])
+}
+
+/// The drag at rest of a joint of this angle, in radians.
+pub fn joint_pressure_drag_coefficient(joint_angle_rad: f64) -> Result<f64, Refusal> {
+    ask(13, [joint_angle_rad])
+}
+
+/// A boattail's share of the base drag.
+pub fn boattail_factor(
+    length_m: f64,
+    fore_diameter_m: f64,
+    aft_diameter_m: f64,
+) -> Result<f64, Refusal> {
+    ask(14, [length_m, fore_diameter_m, aft_diameter_m])
+}
+
+/// The drag between rest and the transonic method's lower bound.
+pub fn subsonic_pressure_drag_coefficient(
+    c_rest: f64,
+    c_low: f64,
+    slope_low: f64,
+    mach_low: f64,
+    mach: f64,
+) -> Result<f64, Refusal> {
+    ask(15, [c_rest, c_low, slope_low, mach_low, mach])
+}
+
+/// An ogive's drag over that of a cone as long and wide.
+pub fn ogive_pressure_drag_factor(kappa: f64) -> Result<f64, Refusal> {
+    ask(16, [kappa])
+}
+
+/// The drag at fineness 3 scaled to another.
+pub fn fineness_scaled_pressure_drag(
+    c3: f64,
+    c0: f64,
+    fineness_ratio: f64,
+) -> Result<f64, Refusal> {
+    ask(17, [c3, c0, fineness_ratio])
+}
+
+/// An elliptical nose's drag below Mach 0.8.
+pub fn ellipsoid_subsonic_pressure_drag(fineness_ratio: f64, mach: f64) -> Result<f64, Refusal> {
+    ask(18, [fineness_ratio, mach])
+}
+
+/// [`stagnation_pressure_ratio`] without its test.
+pub fn stagnation_ratio(mach: f64) -> f64 {
+    step(19, [mach])
+}

@@ -1,0 +1,41 @@
+//! The drag of a model rocket's noses, skin and base, and the sheet that adds them: document 01's
+//! functions, proved for all inputs, for programs in Rust.
+//!
+//! Every function takes every input and answers a value or a [`Refusal`]; none panics, waits or
+//! allocates behind your back (the few that answer a `Vec` or a `String` aside). A NaN answer is
+//! always the one of bits 7ff8000000000000.
+//!
+//! - [`formulas`]: one function for each formula, under the original's name.
+//! - [`Curve`]: the pressure drag of a nose against Mach number; [`Nose`]: Stoney's measured ones.
+//! - [`Sheet`]: parts and columns, and the drag of each part at each column, kept right by edits.
+//! - [`Settings::read`], [`Part::read`], [`print`]: cards.
+//! - [`words`]: the same by numbers and words, as the C interface has them.
+
+mod c;
+mod curve;
+pub mod formulas;
+mod refusal;
+mod sheet;
+
+pub use curve::{takes_cone_formula, Curve, Nose, Shape};
+pub use refusal::{check_dimension, Quantity, Refusal};
+pub use sheet::{print, Column, Part, Settings, Sheet, COLUMNS, PLACES, ROWS};
+
+/// The C functions themselves, for programs that measure them.
+#[doc(hidden)]
+pub use c::raw;
+
+/// The C interface in safe Rust: statuses, floats by their bits, parts and sheets by their words.
+/// The types above are made of these; a host has them for sheets that it keeps as plain memory.
+pub mod words {
+    pub use crate::c::{
+        check_dimension, curve, formula, insert, nose_lookup, nose_point, open, print, read_part,
+        read_settings, remove, replace, set_column, takes_cone_formula, PartWords, SheetWords,
+        FIRST_PART, MACHS, PARTS, PART_WORDS, REYNOLDS, SHEET_WORDS,
+    };
+}
+
+/// The README's example is compiled and run as a test.
+#[cfg(doctest)]
+#[doc = include_str!("../README.md")]
+struct Readme;

@@ -1,0 +1,246 @@
+//! The sheet, its settings and parts, and cards.
+
+use crate::c::{
+    self, PartWords, SheetWords, FIRST_PART, MACHS, PARTS, PART_WORDS, REYNOLDS, SHEET_WORDS,
+};
+use crate::{Refusal, Shape};
+
+/// Columns and parts that a sheet has room for.
+pub const COLUMNS: usize = 32;
+pub const PLACES: usize = 16;
+/// Rows of cells: 16 parts, friction, base, total.
+pub const ROWS: usize = PLACES + 3;
+
+const FRICTION: usize = PLACES;
+const BASE: usize = PLACES + 1;
+const TOTAL: usize = PLACES + 2;
+
+const _: () = assert!(REYNOLDS == MACHS + COLUMNS && PARTS == REYNOLDS + COLUMNS);
+const _: () = assert!(FIRST_PART + PLACES * PART_WORDS == SHEET_WORDS);
+
+/// What [`print`] needs at most.
+const LONGEST_TEXT: usize = 11033;
+
+/// One column: what the drag is asked at.
+#[derive(Debug, Clone, Copy, PartialEq)]
+pub struct Column {
+    pub mach: f64,
+    pub reynolds: f64,
+}
+
+/// What a sheet is opened with.
+#[derive(Debug, Clone, PartialEq)]
+pub struct Settings {
+    /// From 0.001 to 100.
+    pub reference_diameter: f64,
+    /// From 0 to 1.
+    pub roughness: f64,
+    pub body_fineness: f64,
+    /// At most 32.
+    pub columns: Vec<Column>,
+}
+
+impl Settings {
+    /// The settings' words in a sheet without parts. Columns past the 32nd have no room; their
+    /// number alone has them refused.
+    fn words(&self) -> SheetWords {
+        let mut words = [0; SHEET_WORDS];
+        words[0] = self.reference_diameter.to_bits();
+        words[1] = self.roughness.to_bits();
+        words[2] = self.body_fineness.to_bits();
+        words[3] = self.columns.len() as u64;
+        for (at, column) in self.columns.iter().take(COLUMNS).enumerate() {
+            words[MACHS + at] = column.mach.to_bits();
+            words[REYNOLDS + at] = column.reynolds.to_bits();
+        }
+        words
+    }
+
+    /// The settings out of a sheet's words.
+    fn of(words: &SheetWords) -> Self {
+        let count = (words[3] as usize).min(COLUMNS);
+        let column = |at: usize| Column {
+            mach: f64::from_bits(words[MACHS + at]),
+            reynolds: f64::from_bits(words[REYNOLDS + at]),
+        };
+        Self {
+            reference_diameter: f64::from_bits(words[0]),
+            roughness: f64::from_bits(words[1]),
+            body_fineness: f64::from_bits(words[2]),
+            columns: (0..count).map(column).collect(),
+        }
+    }
+
+    /// Reads a settings card from the byte `at` on, and tells where it ends. Its numbers are
+    /// tested when a sheet is opened.
+    pub fn read(bytes: &[u8], at: usize) -> Result<(Self, usize), Refusal> {
+        let mut words = [0; SHEET_WORDS];
+        let (status, next) = c::read_settings(bytes, at, &mut words);
+        Refusal::of(status, 0)?;
+        Ok((Self::of(&words), next))
+    }
+}
+
+/// A part of the rocket.
+#[derive(Debug, Clone, Copy, PartialEq)]
+pub struct Part {
+    pub shape: Shape,
+    /// From 0 to 100, as the diameter.
+    pub length: f64,
+    pub aft_diameter: f64,
+    /// In radians.
+    pub joint_angle: f64,
+    /// Wetted area over reference area, from 0 to 10000.
+    pub wetted_ratio: f64,
+}
+
+impl Part {
+    fn words(&self) -> PartWords {
+        let (number, parameter) = self.shape.number_and_parameter();
+        [
+            number,
+            parameter.to_bits(),
+            self.length.to_bits(),
+            self.aft_diameter.to_bits(),
+            self.joint_angle.to_bits(),
+            self.wetted_ratio.to_bits(),
+        ]
+    }
+
+    /// A part out of its words, if they name a shape.
+    fn of(words: &[u64]) -> Option<Self> {
+        let float = |at: usize| f64::from_bits(words[at]);
+        Some(Self {
+            shape: Shape::of(words[0], float(1))?,
+            length: float(2),
+            aft_diameter: float(3),
+            joint_angle: float(4),
+            wetted_ratio: float(5),
+        })
+    }
+
+    /// Reads a part card from the byte `at` on, and tells where it ends. Its numbers are tested
+    /// when it is put into a sheet.
+    pub fn read(bytes: &[u8], at: usize) -> Result<(Self, usize), Refusal> {
+        let mut words = [0; PART_WORDS];
+        let (status, next) = c::read_part(bytes, at, &mut words);
+        Refusal::of(status, 0)?;
+        let part = Self::of(&words).expect("an accepted card has one of the six shapes");
+        Ok((part, next))
+    }
+}
+
+/// An open sheet. It holds the lent cells as long as it lives, so nobody else writes them: after
+/// every list of calls its rows are those of a sheet built from nothing.
+///
+/// A refused call changes neither the sheet nor a cell.
+#[derive(Debug)]
+pub struct Sheet<'cells> {
+    words: SheetWords,
+    cells: &'cells mut [f64],
+}
+
+impl<'cells> Sheet<'cells> {
+    /// Opens a sheet without parts over these cells, of which it needs 19 a column; those past
+    /// them are never written.
+    pub fn open(settings: &Settings, cells: &'cells mut [f64]) -> Result<Self, Refusal> {
+        let mut words = settings.words();
+        let (status, bits) = c::open(&mut words, cells);
+        Refusal::of(status, bits)?;
+        Ok(Self { words, cells })
+    }
+
+    /// Puts a part in at a place; the parts from that place on move up one.
+    pub fn insert(&mut self, place: usize, part: &Part) -> Result<(), Refusal> {
+        let (status, bits) = c::insert(&mut self.words, place, &part.words(), self.cells);
+        Refusal::of(status, bits)
+    }
+
+    /// Puts a part in at the end.
+    pub fn push(&mut self, part: &Part) -> Result<(), Refusal> {
+        self.insert(self.part_count(), part)
+    }
+
+    /// Puts another part at a place.
+    pub fn replace(&mut self, place: usize, part: &Part) -> Result<(), Refusal> {
+        let (status, bits) = c::replace(&mut self.words, place, &part.words(), self.cells);
+        Refusal::of(status, bits)
+    }
+
+    /// Takes a part out; those after it move down one.
+    pub fn remove(&mut self, place: usize) -> Result<(), Refusal> {
+        let (status, bits) = c::remove(&mut self.words, place, self.cells);
+        Refusal::of(status, bits)
+    }
+
+    /// Asks a column at another Mach and Reynolds number.
+    pub fn set_column(&mut self, at: usize, column: Column) -> Result<(), Refusal> {
+        let Column { mach, reynolds } = column;
+        let (status, bits) = c::set_column(&mut self.words, at, mach, reynolds, self.cells);
+        Refusal::of(status, bits)
+    }
+
+    pub fn settings(&self) -> Settings {
+        Settings::of(&self.words)
+    }
+
+    pub fn column_count(&self) -> usize {
+        self.words[3] as usize
+    }
+
+    pub fn part_count(&self) -> usize {
+        self.words[PARTS] as usize
+    }
+
+    /// The part at a place.
+    pub fn part(&self, place: usize) -> Option<Part> {
+        if place >= self.part_count() {
+            return None;
+        }
+        let at = FIRST_PART + PART_WORDS * place;
+        Part::of(&self.words[at..at + PART_WORDS])
+    }
+
+    /// The pressure drag of the part at a place, a cell for each column.
+    pub fn part_row(&self, place: usize) -> Option<&[f64]> {
+        (place < self.part_count()).then(|| self.row(place))
+    }
+
+    /// Skin friction of the whole body.
+    pub fn friction(&self) -> &[f64] {
+        self.row(FRICTION)
+    }
+
+    /// Drag of the blunt end.
+    pub fn base(&self) -> &[f64] {
+        self.row(BASE)
+    }
+
+    /// All part rows, friction and base.
+    pub fn total(&self) -> &[f64] {
+        self.row(TOTAL)
+    }
+
+    /// All lent cells.
+    pub fn cells(&self) -> &[f64] {
+        self.cells
+    }
+
+    /// The sheet's words, as the C interface has them.
+    pub fn words(&self) -> &SheetWords {
+        &self.words
+    }
+
+    fn row(&self, row: usize) -> &[f64] {
+        let count = self.column_count();
+        &self.cells[row * count..(row + 1) * count]
+    }
+}
+
+/// What the program `sheet` prints for a stream of cards.
+pub fn print(stream: &[u8]) -> String {
+    let mut text = vec![0; LONGEST_TEXT];
+    let length = c::print(stream, &mut text);
+    text.truncate(length);
+    String::from_utf8(text).expect("it prints ASCII alone")
+}

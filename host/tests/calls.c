@@ -1,0 +1,320 @@
+/* Each function of the C interface once accepted and once refused, and the
+ * typed functions over them. The exit status is 1 if a test failed. */
+#include "cobalnis.h"
+
+#include <math.h>
+#include <stdio.h>
+
+static int failures = 0;
+
+#define CHECK(what)                                                   \
+    do {                                                              \
+        if (!(what)) {                                                \
+            printf("calls.c:%d: not so: %s\n", __LINE__, #what);      \
+            failures++;                                               \
+        }                                                             \
+    } while (0)
+
+/* Refusal 1 of this code. */
+#define DOMAIN_OF(code) (COBALNIS_DOMAIN + 256u * (code))
+
+static const uint64_t SHOWN_NAN = 0x7ff8000000000000u;
+
+/* Document 01's cards: D and B of 1, one column at rest, a flat face. */
+static const uint8_t CARDS[] = {
+    0x0d, 0, 0, 0, 0, 0, 0, 0xf0, 0x3f, 0, 0, 0, 0, 0, 0, 0xf0, 0x3f,
+    0x01, 0, 0, 0, 0, 0, 0, 0,    0,    0, 0, 0, 0, 0, 0, 0,    0,
+    0x08, 0, 0, 0, 0, 0, 0, 0xf0, 0x3f,
+};
+
+static const cobalnis_part FACE = {COBALNIS_CONICAL, 0, 0, 1, 0, 0};
+
+static void raw_formulas(void)
+{
+    uint64_t bits = 7;
+    CHECK(cobalnis_formula(12, 0, NAN, NAN, NAN, NAN, &bits) == 0);
+    CHECK(cobalnis_double(bits) == 0.12);
+    CHECK(cobalnis_formula(12, NAN, 0, 0, 0, 0, &bits) == DOMAIN_OF(COBALNIS_MACH));
+    CHECK(bits == SHOWN_NAN);
+    bits = 7;
+    CHECK(cobalnis_formula(20, 0, 0, 0, 0, 0, &bits) == COBALNIS_NO_SUCH && bits == 7);
+
+    CHECK(cobalnis_check_dimension(2, -0.0, true, &bits) == 0 && bits == 0);
+    CHECK(cobalnis_check_dimension(19, 0, false, &bits) == DOMAIN_OF(COBALNIS_BODY_FINENESS));
+    bits = 7;
+    CHECK(cobalnis_check_dimension(23, 1, false, &bits) == COBALNIS_NO_SUCH && bits == 7);
+    CHECK(cobalnis_check_dimension(0, 1, false, &bits) == COBALNIS_NO_SUCH && bits == 7);
+
+    CHECK(cobalnis_takes_cone_formula(COBALNIS_CONICAL, 0) == 1);
+    CHECK(cobalnis_takes_cone_formula(COBALNIS_HAACK, 0) == 0);
+    CHECK(cobalnis_takes_cone_formula(6, 0) == COBALNIS_NO_SUCH);
+}
+
+static void raw_noses(void)
+{
+    uint64_t two[2] = {7, 7}, three[3] = {7, 7, 7};
+    CHECK(cobalnis_nose_point(COBALNIS_NOSE_ELLIPSOID, 0, two) == 0);
+    CHECK(cobalnis_double(two[0]) == 1.2 && cobalnis_double(two[1]) == 0.111);
+    CHECK(cobalnis_nose_point(COBALNIS_NOSE_ELLIPSOID, 12, two) == COBALNIS_NO_PLACE);
+    CHECK(cobalnis_nose_point(9, 0, two) == COBALNIS_NO_SUCH);
+    CHECK(cobalnis_nose_lookup(9, 1, three) == COBALNIS_NO_SUCH && three[0] == 7);
+    CHECK(cobalnis_nose_lookup(COBALNIS_NOSE_ELLIPSOID, 1.2, three) == 0);
+    CHECK(cobalnis_double(three[0]) == 0.111 && cobalnis_double(three[2]) == 1.2);
+}
+
+static void raw_curve(void)
+{
+    const double machs[2] = {0, 1};
+    const double bad[2] = {0, -1};
+    uint64_t out[2] = {7, 7}, about[3] = {7, 7, 7};
+    CHECK(cobalnis_curve(COBALNIS_STEP, NAN, NAN, NAN, machs, 2, out, 2, about) == 0);
+    CHECK(cobalnis_double(out[0]) == 0.85 && cobalnis_double(about[1]) == 0.85);
+    CHECK(about[0] == 0 && about[2] == 0);
+    CHECK(cobalnis_curve(COBALNIS_STEP, 0, 0, 0, machs, 2, out, 1, about) == COBALNIS_FEW_CELLS);
+    CHECK(cobalnis_curve(COBALNIS_STEP, 0, 0, 0, bad, 2, out, 2, about) ==
+          DOMAIN_OF(COBALNIS_MACH));
+    CHECK(cobalnis_double(about[0]) == -1);
+    CHECK(cobalnis_curve(COBALNIS_OGIVE, 0.9, 1, 0, machs, 2, out, 2, about) ==
+          COBALNIS_OGIVE_RATIO);
+    CHECK(cobalnis_curve(COBALNIS_HAACK, 0.4, 1, 0, machs, 2, out, 2, about) ==
+          COBALNIS_HAACK_ABOVE);
+    CHECK(cobalnis_curve(7, 0, 1, 0, machs, 2, out, 2, about) == COBALNIS_NO_SUCH);
+}
+
+static void steps(void)
+{
+    CHECK(cobalnis_sqrt(2) == 1.4142135623730951 && isnan(cobalnis_sqrt(-1)));
+    CHECK(cobalnis_ln(1) == 0 && isnan(cobalnis_ln(0)));
+    CHECK(cobalnis_exp(0) == 1 && isinf(cobalnis_exp(710)));
+    CHECK(cobalnis_powf(2, 0) == 1 && isnan(cobalnis_powf(-1, 2)));
+    CHECK(cobalnis_sin(0) == 0 && isnan(cobalnis_sin(NAN)));
+    CHECK(cobalnis_stagnation_ratio(0) == 1);
+}
+
+static void drag_formulas(void)
+{
+    double x = 7;
+    CHECK(cobalnis_check_mach_any(25, &x) == 0 && x == 0);
+    CHECK(cobalnis_check_mach_any(-1, &x) == DOMAIN_OF(COBALNIS_MACH) && x == -1);
+    CHECK(cobalnis_check_mach_any(-1, NULL) == DOMAIN_OF(COBALNIS_MACH));
+    CHECK(cobalnis_critical_reynolds(0, &x) == 0 && isinf(x));
+    CHECK(cobalnis_critical_reynolds(-1, &x) == DOMAIN_OF(COBALNIS_ROUGHNESS) && x == -1);
+    CHECK(cobalnis_incompressible_skin_friction(1, NAN, &x) == 0 && x == 0.0148);
+    CHECK(cobalnis_incompressible_skin_friction(-1, 0, &x) == DOMAIN_OF(COBALNIS_REYNOLDS));
+    CHECK(cobalnis_skin_friction_coefficient(9999, NAN, 0, &x) == 0 && x == 0.0148);
+    CHECK(cobalnis_skin_friction_coefficient(10000, NAN, 0, &x) == DOMAIN_OF(COBALNIS_ROUGHNESS));
+    CHECK(cobalnis_body_friction_form_factor(1, &x) == 0 && x == 1.5);
+    CHECK(cobalnis_body_friction_form_factor(0, &x) == DOMAIN_OF(COBALNIS_BODY_FINENESS));
+    CHECK(cobalnis_stagnation_pressure_ratio(0, &x) == 0 && x == 1);
+    CHECK(cobalnis_stagnation_pressure_ratio(-1, &x) == DOMAIN_OF(COBALNIS_MACH));
+    CHECK(cobalnis_stagnation_drag_coefficient(0, &x) == 0 && x == 0.85);
+    CHECK(cobalnis_stagnation_drag_coefficient(INFINITY, &x) == DOMAIN_OF(COBALNIS_MACH));
+    CHECK(cobalnis_base_drag_coefficient(1, &x) == 0 && x == 0.25);
+    CHECK(cobalnis_base_drag_coefficient(-1, &x) == DOMAIN_OF(COBALNIS_MACH));
+    CHECK(cobalnis_joint_pressure_drag_coefficient(0, &x) == 0 && x == 0);
+    CHECK(cobalnis_joint_pressure_drag_coefficient(2, &x) == DOMAIN_OF(COBALNIS_JOINT_ANGLE));
+    CHECK(cobalnis_boattail_factor(2, 2, 1, &x) == 0 && x == 0.5);
+    CHECK(cobalnis_boattail_factor(2, 1, 2, &x) == DOMAIN_OF(COBALNIS_BOATTAIL_FORE) && x == 1);
+}
+
+static void nose_formulas(void)
+{
+    double x = 7, y = 7;
+    CHECK(cobalnis_subsonic_pressure_drag_coefficient(0.5, 1, 1, 1, 1, &x) == 0 && x == 1);
+    CHECK(cobalnis_subsonic_pressure_drag_coefficient(0.5, 1, 1, 1, 2, &x) ==
+          DOMAIN_OF(COBALNIS_MACH_BELOW_LOWER_BOUND));
+    CHECK(cobalnis_ogive_pressure_drag_factor(1, &x) == 0 && x == 1);
+    CHECK(cobalnis_ogive_pressure_drag_factor(2, &x) == DOMAIN_OF(COBALNIS_OGIVE_KAPPA));
+    CHECK(cobalnis_fineness_scaled_pressure_drag(0, 1, 0, &x) == 0 && x == 1);
+    CHECK(cobalnis_fineness_scaled_pressure_drag(0, 0, 0, &x) == DOMAIN_OF(COBALNIS_BLUNT_DRAG));
+    CHECK(cobalnis_ellipsoid_subsonic_pressure_drag(0.5, 0, &x) == 0 && x == 0.01);
+    CHECK(cobalnis_ellipsoid_subsonic_pressure_drag(0.5, 0.8, &x) ==
+          DOMAIN_OF(COBALNIS_ELLIPSOID_MACH));
+    CHECK(cobalnis_check(COBALNIS_REYNOLDS, 1, false, &x) == 0 && x == 0);
+    CHECK(cobalnis_check(COBALNIS_REYNOLDS, -2, true, &x) == DOMAIN_OF(COBALNIS_REYNOLDS));
+    CHECK(x == -2);
+
+    CHECK(cobalnis_stoney_point(COBALNIS_NOSE_VON_KARMAN, 0, &x, &y) == 0 && x == 0.8 && y == 0);
+    CHECK(cobalnis_stoney_point(COBALNIS_NOSE_VON_KARMAN, 18, &x, &y) == COBALNIS_NO_PLACE);
+    CHECK(cobalnis_stoney_value_and_slope(COBALNIS_NOSE_ELLIPSOID, 5, &x, &y) == 0);
+    CHECK(x == 0.158 && y == 0);
+    CHECK(cobalnis_stoney_value_and_slope(9, 5, &x, &y) == COBALNIS_NO_SUCH);
+    CHECK(cobalnis_stoney_first_mach(COBALNIS_NOSE_POWER_QUARTER, &x) == 0 && x == 1.2);
+    CHECK(cobalnis_stoney_first_mach(9, &x) == COBALNIS_NO_SUCH && x == 1.2);
+}
+
+/* Whether a typed function with several arguments passes them on in order. */
+static bool is_formula(double x, uint32_t which, double a, double b, double c, double d, double e)
+{
+    uint64_t bits = 0;
+    return cobalnis_formula(which, a, b, c, d, e, &bits) == 0 && cobalnis_double(bits) == x;
+}
+
+static void arguments_in_order(void)
+{
+    double x = 7;
+    CHECK(is_formula(cobalnis_powf(2, 0.3), 3, 2, 0.3, 0, 0, 0));
+    CHECK(cobalnis_incompressible_skin_friction(1e6, 1e-3, &x) == 0);
+    CHECK(is_formula(x, 7, 1e6, 1e-3, 0, 0, 0));
+    CHECK(cobalnis_skin_friction_coefficient(1e6, 1e-3, 0.5, &x) == 0);
+    CHECK(is_formula(x, 8, 1e6, 1e-3, 0.5, 0, 0));
+    CHECK(cobalnis_boattail_factor(0.2, 0.3, 0.2, &x) == 0);
+    CHECK(is_formula(x, 14, 0.2, 0.3, 0.2, 0, 0));
+    CHECK(cobalnis_subsonic_pressure_drag_coefficient(0.01, 0.2, 1.5, 0.9, 0.6, &x) == 0);
+    CHECK(is_formula(x, 15, 0.01, 0.2, 1.5, 0.9, 0.6));
+    CHECK(cobalnis_fineness_scaled_pressure_drag(0.1, 0.9, 5, &x) == 0);
+    CHECK(is_formula(x, 17, 0.1, 0.9, 5, 0, 0));
+    CHECK(cobalnis_ellipsoid_subsonic_pressure_drag(0.3, 0.6, &x) == 0);
+    CHECK(is_formula(x, 18, 0.3, 0.6, 0, 0, 0));
+}
+
+static void curves(void)
+{
+    const double machs[3] = {0.8, 1.2, 2};
+    double out[3] = {7, 7, 7}, x = 7;
+    cobalnis_pressure_drag_curve curve = cobalnis_curve_step();
+    CHECK(curve.rest_coefficient == 0.85 && curve.transonic_lower_bound == 0);
+    CHECK(cobalnis_curve_coefficient(&curve, 0, &x) == 0 && x == 0.85);
+    CHECK(cobalnis_curve_new(COBALNIS_POWER_SERIES, NAN, -0.0, 0, &curve, &x) == 0);
+    CHECK(curve.rest_coefficient == 0.85);
+    CHECK(cobalnis_curve_new(COBALNIS_HAACK, 1.0 / 3, 3, 0, &curve, &x) == 0);
+    CHECK(curve.transonic_lower_bound == 0.8);
+    CHECK(cobalnis_curve_coefficients(&curve, machs, 3, out, &x) == 0 && out[0] == 0);
+    CHECK(out[1] > 0.1 && out[1] < 0.101);
+    CHECK(cobalnis_curve_coefficient(&curve, -1, &x) == DOMAIN_OF(COBALNIS_MACH) && x == -1);
+    CHECK(cobalnis_curve_new(COBALNIS_CONICAL, 0, 1, NAN, &curve, &x) ==
+          DOMAIN_OF(COBALNIS_JOINT_ANGLE));
+    CHECK(isnan(x) && curve.transonic_lower_bound == 0.8);
+    CHECK(cobalnis_curve_new(7, 0, 1, 0, &curve, &x) == COBALNIS_NO_SUCH);
+}
+
+/* A sheet of document 01's example, opened over these cells. */
+static cobalnis_sheet example(double *cells, size_t lent)
+{
+    cobalnis_sheet sheet = {.reference_diameter = 1, .body_fineness = 1, .columns = 1};
+    CHECK(cobalnis_sheet_open(&sheet, cells, lent, NULL) == 0);
+    return sheet;
+}
+
+static void sheet_calls(void)
+{
+    double cells[COBALNIS_ROWS + 1], x = 7;
+    for (size_t i = 0; i <= COBALNIS_ROWS; i++)
+        cells[i] = -3;
+    cobalnis_sheet sheet = example(cells, COBALNIS_ROWS);
+    CHECK(sheet.parts == 0 && cells[0] == 0);
+    CHECK(cobalnis_sheet_insert(&sheet, 0, FACE, cells, COBALNIS_ROWS, &x) == 0);
+    CHECK(sheet.parts == 1 && sheet.part[0].aft_diameter == 1);
+    CHECK(cobalnis_sheet_row(&sheet, 0, cells)[0] == 0.85);
+    CHECK(cobalnis_sheet_row(&sheet, COBALNIS_FRICTION, cells)[0] == 0);
+    CHECK(cobalnis_sheet_row(&sheet, COBALNIS_BASE, cells)[0] == 0.12);
+    CHECK(cobalnis_sheet_row(&sheet, COBALNIS_TOTAL, cells)[0] == 0.85 + 0.12);
+    CHECK(cells[COBALNIS_ROWS] == -3);
+
+    cobalnis_part half = FACE;
+    half.aft_diameter = 0.5;
+    CHECK(cobalnis_sheet_replace(&sheet, 0, half, cells, COBALNIS_ROWS, &x) == 0);
+    CHECK(cells[0] == 0.85 * 0.25);
+    CHECK(cobalnis_sheet_set_column(&sheet, 0, 1, 1e6, cells, COBALNIS_ROWS, &x) == 0);
+    CHECK(sheet.mach[0] == 1 && sheet.reynolds[0] == 1e6);
+    CHECK(cobalnis_sheet_remove(&sheet, 0, cells, COBALNIS_ROWS, &x) == 0);
+    CHECK(sheet.parts == 0 && cells[0] == 0);
+}
+
+static void sheet_refusals(void)
+{
+    double cells[COBALNIS_ROWS], x = 7;
+    cobalnis_sheet sheet = example(cells, COBALNIS_ROWS);
+    cobalnis_sheet before = sheet;
+    cobalnis_part bad = FACE;
+    bad.joint_angle = NAN;
+    CHECK(cobalnis_sheet_insert(&sheet, 0, bad, cells, COBALNIS_ROWS, &x) ==
+          DOMAIN_OF(COBALNIS_JOINT_ANGLE));
+    CHECK(isnan(x));
+    bad.shape = 6;
+    CHECK(cobalnis_sheet_insert(&sheet, 9, bad, cells, 0, &x) == COBALNIS_RESERVED);
+    CHECK(cobalnis_sheet_replace(&sheet, 0, FACE, cells, COBALNIS_ROWS, &x) == COBALNIS_NO_PLACE);
+    CHECK(cobalnis_sheet_remove(&sheet, 0, cells, COBALNIS_ROWS, &x) == COBALNIS_NO_PLACE);
+    CHECK(cobalnis_sheet_remove(&sheet, 0, cells, 18, &x) == COBALNIS_FEW_CELLS);
+    CHECK(cobalnis_sheet_set_column(&sheet, 1, 0, 0, cells, COBALNIS_ROWS, &x) ==
+          COBALNIS_NO_PLACE);
+    CHECK(cobalnis_sheet_set_column(&sheet, 0, -1, 0, cells, COBALNIS_ROWS, &x) ==
+          DOMAIN_OF(COBALNIS_MACH));
+    CHECK(x == -1);
+    CHECK(memcmp(&sheet, &before, sizeof sheet) == 0);
+
+    for (size_t i = 0; i < COBALNIS_PLACES; i++)
+        CHECK(cobalnis_sheet_insert(&sheet, i, FACE, cells, COBALNIS_ROWS, NULL) == 0);
+    CHECK(cobalnis_sheet_insert(&sheet, 0, FACE, cells, COBALNIS_ROWS, NULL) ==
+          COBALNIS_MANY_PARTS);
+    sheet.columns = 33;
+    CHECK(cobalnis_sheet_open(&sheet, cells, COBALNIS_ROWS, NULL) == COBALNIS_MANY_COLUMNS);
+    sheet.columns = 1;
+    sheet.reference_diameter = 0;
+    CHECK(cobalnis_sheet_open(&sheet, cells, COBALNIS_ROWS, NULL) == COBALNIS_HOUSE_INTERVAL);
+}
+
+/* The words' functions themselves, which the typed ones pass on to. */
+static void raw_sheet(void)
+{
+    double cells[COBALNIS_ROWS];
+    uint64_t words[COBALNIS_SHEET_WORDS] = {0}, part[COBALNIS_PART_WORDS] = {0}, bits = 7;
+    size_t next = 7;
+    CHECK(cobalnis_open(words, cells, COBALNIS_ROWS, &bits) == COBALNIS_HOUSE_INTERVAL);
+    CHECK(cobalnis_read_settings(CARDS, sizeof CARDS, 0, words, &next) == 0 && next == 34);
+    CHECK(cobalnis_open(words, cells, COBALNIS_ROWS, &bits) == 0);
+    CHECK(cobalnis_read_part(CARDS, sizeof CARDS, next, part, &next) == 0 && next == 43);
+    CHECK(cobalnis_insert(words, 0, part, cells, COBALNIS_ROWS, &bits) == 0 && words[68] == 1);
+    CHECK(cobalnis_replace(words, 0, part, cells, COBALNIS_ROWS, &bits) == 0);
+    CHECK(cobalnis_set_column(words, 0, 0, 0, cells, COBALNIS_ROWS, &bits) == 0);
+    CHECK(cobalnis_remove(words, 0, cells, COBALNIS_ROWS, &bits) == 0 && words[68] == 0);
+    CHECK(cobalnis_insert(words, 1, part, cells, COBALNIS_ROWS, &bits) == COBALNIS_NO_PLACE);
+    CHECK(cobalnis_replace(words, 0, part, cells, COBALNIS_ROWS, &bits) == COBALNIS_NO_PLACE);
+    CHECK(cobalnis_remove(words, 0, cells, COBALNIS_ROWS, &bits) == COBALNIS_NO_PLACE);
+    CHECK(cobalnis_set_column(words, 0, NAN, 0, cells, COBALNIS_ROWS, &bits) ==
+          DOMAIN_OF(COBALNIS_MACH));
+    CHECK(bits == SHOWN_NAN);
+}
+
+static void cards(void)
+{
+    cobalnis_sheet sheet = {.columns = 7};
+    cobalnis_part part = {.length = 7};
+    size_t next = 7;
+    CHECK(cobalnis_sheet_read_settings(CARDS, 1, 0, &sheet, &next) == COBALNIS_ENDED);
+    CHECK(cobalnis_sheet_read_settings(CARDS, sizeof CARDS, 34, &sheet, &next) == COBALNIS_FIELD);
+    CHECK(cobalnis_part_read((const uint8_t *)"\x40", 1, 0, &part, &next) == COBALNIS_RESERVED);
+    CHECK(cobalnis_part_read(CARDS, sizeof CARDS, sizeof CARDS, &part, &next) == COBALNIS_ENDED);
+    CHECK(next == 7 && sheet.columns == 7 && part.length == 7);
+    CHECK(cobalnis_sheet_read_settings(CARDS, sizeof CARDS, 0, &sheet, &next) == 0);
+    CHECK(sheet.columns == 1 && sheet.reference_diameter == 1 && next == 34);
+    CHECK(cobalnis_part_read(CARDS, sizeof CARDS, next, &part, &next) == 0 && next == 43);
+    CHECK(part.shape == COBALNIS_CONICAL && part.aft_diameter == 1 && part.length == 0);
+
+    static const char text[] = "mach 0000000000000000\npart 0 3feb333333333333\n"
+                               "friction 0000000000000000\nbase 3fbeb851eb851eb8\n"
+                               "total 3fef0a3d70a3d70a\n";
+    static uint8_t out[COBALNIS_LONGEST_TEXT];
+    CHECK(cobalnis_print(CARDS, sizeof CARDS, out, sizeof out) == sizeof text - 1);
+    CHECK(memcmp(out, text, sizeof text - 1) == 0);
+    CHECK(cobalnis_print(CARDS, 1, out, sizeof out) == strlen("refused 4 card 0\n"));
+    CHECK(cobalnis_print(CARDS, sizeof CARDS, out, sizeof out - 1) == 0);
+}
+
+int main(void)
+{
+    CHECK(cobalnis_number(DOMAIN_OF(22)) == 1 && cobalnis_code(DOMAIN_OF(22)) == 22);
+    raw_formulas();
+    raw_noses();
+    raw_curve();
+    steps();
+    drag_formulas();
+    nose_formulas();
+    arguments_in_order();
+    curves();
+    sheet_calls();
+    sheet_refusals();
+    raw_sheet();
+    cards();
+    return failures > 0;
+}

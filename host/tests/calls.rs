@@ -1,0 +1,400 @@
+//! Each function of the wrapper, accepted and refused, with document 01's own values.
+
+use cobalnis::formulas::*;
+use cobalnis::{
+    check_dimension, print, takes_cone_formula, Column, Curve, Nose, Part, Quantity, Refusal,
+    Settings, Shape, Sheet, COLUMNS, PLACES, ROWS,
+};
+
+const NAN: f64 = f64::NAN;
+const INFINITY: f64 = f64::INFINITY;
+const RIGHT_ANGLE: f64 = f64::from_bits(0x3ff9_21fb_5444_2d18);
+
+/// Refusal 1 for this quantity and value.
+fn domain(what: Quantity, value: f64) -> Refusal {
+    Refusal {
+        number: 1,
+        code: what.code(),
+        value,
+    }
+}
+
+/// A refusal of a number alone.
+fn refusal(number: u8) -> Refusal {
+    Refusal {
+        number,
+        code: 0,
+        value: 0.0,
+    }
+}
+
+#[test]
+fn fixed_steps() {
+    assert_eq!(sqrt(2.0), 2.0f64.sqrt());
+    assert_eq!(sqrt(-0.0).to_bits(), (-0.0f64).to_bits());
+    assert_eq!(sqrt(-1.0).to_bits(), 0x7ff8_0000_0000_0000);
+    assert_eq!((ln(1.0), ln(INFINITY)), (0.0, INFINITY));
+    assert!(ln(0.0).is_nan());
+    assert_eq!((exp(0.0), exp(710.0), exp(-746.0)), (1.0, INFINITY, 0.0));
+    assert_eq!((powf(NAN, 0.0), powf(1.0, NAN)), (1.0, 1.0));
+    assert_eq!(powf(-0.0, -2.0), INFINITY);
+    assert!(powf(-1.0, 2.0).is_nan());
+    assert_eq!(sin(0.0), 0.0);
+    assert!(sin(NAN).is_nan());
+}
+
+#[test]
+fn friction() {
+    assert_eq!(check_mach_any(-0.0), Ok(()));
+    assert_eq!(check_mach_any(-1.0), Err(domain(Quantity::Mach, -1.0)));
+    assert_eq!(critical_reynolds(0.0), Ok(INFINITY));
+    let refused = domain(Quantity::Roughness, INFINITY);
+    assert_eq!(critical_reynolds(INFINITY), Err(refused));
+    assert_eq!(incompressible_skin_friction(1.0, NAN), Ok(0.0148));
+    let refused = domain(Quantity::Reynolds, -1.0);
+    assert_eq!(incompressible_skin_friction(-1.0, 0.0), Err(refused));
+    assert_eq!(skin_friction_coefficient(9999.0, NAN, 0.0), Ok(0.0148));
+    let refused = domain(Quantity::Roughness, NAN);
+    assert_eq!(skin_friction_coefficient(1e4, NAN, 0.0), Err(refused));
+    assert_eq!(body_friction_form_factor(1.0), Ok(1.5));
+    let refused = domain(Quantity::BodyFineness, 0.0);
+    assert_eq!(body_friction_form_factor(0.0), Err(refused));
+}
+
+#[test]
+fn pressure() {
+    assert_eq!(stagnation_pressure_ratio(0.0), Ok(1.0));
+    assert_eq!(stagnation_ratio(0.0), 1.0);
+    let refused = domain(Quantity::Mach, -1.0);
+    assert_eq!(stagnation_pressure_ratio(-1.0), Err(refused));
+    assert_eq!(stagnation_drag_coefficient(0.0), Ok(0.85));
+    assert_eq!(stagnation_drag_coefficient(-1.0), Err(refused));
+    assert_eq!(base_drag_coefficient(0.0), Ok(0.12));
+    assert_eq!(base_drag_coefficient(1.0), Ok(0.25));
+    assert_eq!(base_drag_coefficient(-1.0), Err(refused));
+    let joint = joint_pressure_drag_coefficient;
+    assert_eq!(joint(0.0), Ok(0.0));
+    assert!(joint(RIGHT_ANGLE).is_ok());
+    let past = RIGHT_ANGLE.next_up();
+    assert_eq!(joint(past), Err(domain(Quantity::JointAngle, past)));
+    assert_eq!(boattail_factor(1.0, 2.0, 1.0), Ok(1.0));
+    assert_eq!(boattail_factor(2.0, 2.0, 1.0), Ok(0.5));
+    assert_eq!(boattail_factor(3.0, 2.0, 1.0), Ok(0.0));
+    let refused = domain(Quantity::BoattailFore, 1.0);
+    assert_eq!(boattail_factor(1.0, 1.0, 2.0), Err(refused));
+}
+
+#[test]
+fn noses_formulas() {
+    let subsonic = subsonic_pressure_drag_coefficient;
+    assert_eq!(subsonic(0.5, 1.0, 1.0, 1.0, 1.0), Ok(1.0));
+    let refused = domain(Quantity::MachBelowLowerBound, 2.0);
+    assert_eq!(subsonic(0.5, 1.0, 1.0, 1.0, 2.0), Err(refused));
+    assert_eq!(ogive_pressure_drag_factor(1.0), Ok(1.0));
+    let refused = domain(Quantity::OgiveKappa, 2.0);
+    assert_eq!(ogive_pressure_drag_factor(2.0), Err(refused));
+    assert_eq!(fineness_scaled_pressure_drag(0.0, 1.0, 0.0), Ok(1.0));
+    assert_eq!(fineness_scaled_pressure_drag(0.0, 1.0, 3.0), Ok(0.0));
+    let refused = domain(Quantity::BluntDrag, 0.0);
+    assert_eq!(fineness_scaled_pressure_drag(0.0, 0.0, 3.0), Err(refused));
+    assert_eq!(ellipsoid_subsonic_pressure_drag(0.5, 0.0), Ok(0.01));
+    let refused = domain(Quantity::EllipsoidMach, 0.8);
+    assert_eq!(ellipsoid_subsonic_pressure_drag(0.5, 0.8), Err(refused));
+    assert!(takes_cone_formula(Shape::Conical));
+    assert!(takes_cone_formula(Shape::PowerSeries { exponent: NAN }));
+    assert!(!takes_cone_formula(Shape::VON_KARMAN));
+}
+
+#[test]
+fn dimensions() {
+    for what in Quantity::ALL {
+        assert_eq!(check_dimension(what, 1.0, false), Ok(()));
+        assert_eq!(check_dimension(what, -0.0, true), Ok(()));
+        let refused = check_dimension(what, -0.0, false).unwrap_err();
+        assert_eq!(refused, domain(what, -0.0));
+        assert_eq!(refused.quantity(), Some(what));
+    }
+}
+
+/// Every refusal says in words what it is for, none as another.
+#[test]
+fn refusals_in_words() {
+    let refused = domain(Quantity::JointAngle, NAN);
+    assert_eq!(refused.to_string(), "the joint angle can't be NaN");
+    let mut texts: Vec<String> = (1..=11).map(|n| refusal(n).to_string()).collect();
+    texts.extend(Quantity::ALL.map(|what| domain(what, -1.0).to_string()));
+    let count = texts.len();
+    texts.sort();
+    texts.dedup();
+    assert_eq!(texts.len(), count);
+}
+
+#[test]
+fn measured_noses() {
+    let points: usize = Nose::ALL.iter().map(|nose| nose.points().count()).sum();
+    assert_eq!(points, 149);
+    for nose in Nose::ALL {
+        let points: Vec<_> = nose.points().collect();
+        assert!(points.windows(2).all(|pair| pair[0].0 < pair[1].0));
+        assert_eq!(nose.first_mach(), points[0].0);
+        assert_eq!(nose.point(points.len()), Err(refusal(8)));
+        assert_eq!(nose.point(usize::MAX), Err(refusal(8)));
+        for (mach, drag) in points {
+            assert_eq!(nose.value_and_slope(mach).0, drag);
+        }
+    }
+    let at = |mach: f64| Nose::Ellipsoid.value_and_slope(mach).0;
+    assert_eq!((at(0.8), at(1.2), at(5.0)), (0.0, 0.111, 0.158));
+}
+
+#[test]
+fn curves() {
+    let step = Curve::step();
+    assert_eq!(step.coefficient(0.0), Ok(0.85));
+    assert_eq!(step.rest_coefficient(), 0.85);
+    assert_eq!(step.transonic_lower_bound(), 0.0);
+    // Fineness -0, angle 0, power exponent NaN: the step.
+    let flat = Curve::new(Shape::PowerSeries { exponent: NAN }, -0.0, 0.0).unwrap();
+    assert_eq!(
+        flat.coefficients(&[0.0, 2.0]),
+        step.coefficients(&[0.0, 2.0])
+    );
+    // The original's worked example: a 5:1 von Karman nose at Mach 1.5 drags 0.0407.
+    let nose = Curve::new(Shape::VON_KARMAN, 5.0, 0.0).unwrap();
+    assert!((nose.coefficient(1.5).unwrap() - 0.0407).abs() < 5e-5);
+    assert_eq!(nose.transonic_lower_bound(), 0.8);
+    let machs: Vec<f64> = (0..200).map(|i| f64::from(i) * 0.02).collect();
+    let together = nose.coefficients(&machs).unwrap();
+    for (mach, coefficient) in machs.iter().zip(together) {
+        assert_eq!(nose.coefficient(*mach), Ok(coefficient));
+    }
+    assert_eq!(nose.coefficients(&[]), Ok(vec![]));
+    let refused = domain(Quantity::Mach, -1.0);
+    assert_eq!(nose.coefficient(-1.0), Err(refused));
+    assert_eq!(nose.coefficients(&[1.0, -1.0, NAN]), Err(refused));
+}
+
+#[test]
+fn curves_refused() {
+    let new = |shape| Curve::new(shape, 3.0, 0.0).map(|_| ());
+    assert_eq!(new(Shape::Ogive { radius_ratio: 0.9 }), Err(refusal(2)));
+    assert_eq!(new(Shape::Haack { parameter: 0.4 }), Err(refusal(3)));
+    assert_eq!(new(Shape::LV_HAACK), Ok(()));
+    let above = (1.0f64 / 3.0).next_up();
+    assert_eq!(new(Shape::Haack { parameter: above }), Err(refusal(3)));
+    let refused = domain(Quantity::HaackParameter, -0.1);
+    assert_eq!(new(Shape::Haack { parameter: -0.1 }), Err(refused));
+    let refused = domain(Quantity::Fineness, -1.0);
+    assert_eq!(Curve::new(Shape::Conical, -1.0, NAN), Err(refused));
+    let refused = domain(Quantity::JointAngle, NAN);
+    assert_eq!(Curve::new(Shape::Elliptical, 1.0, NAN), Err(refused));
+}
+
+/// Document 01's settings: D and B of 1, one column at rest.
+fn settings() -> Settings {
+    Settings {
+        reference_diameter: 1.0,
+        roughness: 0.0,
+        body_fineness: 1.0,
+        columns: vec![Column {
+            mach: 0.0,
+            reynolds: 0.0,
+        }],
+    }
+}
+
+/// Document 01's part: a flat face of diameter 1.
+const FACE: Part = Part {
+    shape: Shape::Conical,
+    length: 0.0,
+    aft_diameter: 1.0,
+    joint_angle: 0.0,
+    wetted_ratio: 0.0,
+};
+
+#[test]
+fn the_papers_sheet() {
+    let mut cells = [-3.0; ROWS + 1];
+    let mut sheet = Sheet::open(&settings(), &mut cells).unwrap();
+    assert_eq!((sheet.column_count(), sheet.part_count()), (1, 0));
+    assert_eq!(sheet.part_row(0), None);
+    sheet.push(&FACE).unwrap();
+    assert_eq!(sheet.part(0), Some(FACE));
+    assert_eq!(sheet.part_row(0), Some(&[0.85][..]));
+    assert_eq!(sheet.friction(), [0.0]);
+    assert_eq!(sheet.base(), [0.12]);
+    assert_eq!(sheet.total()[0].to_bits(), 0x3fef_0a3d_70a3_d70a);
+    assert_eq!(sheet.cells()[ROWS], -3.0);
+    assert_eq!(sheet.settings(), settings());
+    assert_eq!(sheet.words()[68], 1);
+}
+
+#[test]
+fn edits() {
+    let mut cells = [0.0; ROWS];
+    let mut sheet = Sheet::open(&settings(), &mut cells).unwrap();
+    let half = Part {
+        aft_diameter: 0.5,
+        ..FACE
+    };
+    sheet.insert(0, &FACE).unwrap();
+    sheet.insert(0, &half).unwrap();
+    assert_eq!(sheet.part(0), Some(half));
+    assert_eq!(sheet.part_row(1), Some(&[0.85 * 0.75][..]));
+    sheet.replace(0, &FACE).unwrap();
+    assert_eq!(sheet.part_row(1), Some(&[0.0][..]));
+    sheet.remove(0).unwrap();
+    assert_eq!((sheet.part_count(), sheet.part(0)), (1, Some(FACE)));
+    assert_eq!(sheet.part(1), None);
+    let column = Column {
+        mach: 1.0,
+        reynolds: 1e6,
+    };
+    sheet.set_column(0, column).unwrap();
+    assert_eq!(sheet.settings().columns, [column]);
+    assert_eq!(sheet.base(), [0.25]);
+}
+
+/// A refused call leaves everything as it was.
+#[test]
+fn edits_refused() {
+    let mut cells = [0.0; ROWS];
+    let mut sheet = Sheet::open(&settings(), &mut cells).unwrap();
+    for place in 0..PLACES {
+        sheet.insert(place, &FACE).unwrap();
+    }
+    let words = *sheet.words();
+    let before = sheet.cells().to_vec();
+    assert_eq!(sheet.insert(16, &FACE), Err(refusal(9)));
+    assert_eq!(sheet.insert(17, &FACE), Err(refusal(8)));
+    assert_eq!(sheet.replace(16, &FACE), Err(refusal(8)));
+    assert_eq!(sheet.remove(usize::MAX), Err(refusal(8)));
+    let long = Part {
+        length: 101.0,
+        ..FACE
+    };
+    assert_eq!(sheet.replace(0, &long), Err(refusal(11)));
+    let angle = Part {
+        joint_angle: NAN,
+        ..FACE
+    };
+    let refused = domain(Quantity::JointAngle, NAN);
+    assert_eq!(sheet.replace(0, &angle), Err(refused));
+    let ogive = Part {
+        shape: Shape::Ogive { radius_ratio: 0.9 },
+        length: 1.0,
+        ..FACE
+    };
+    assert_eq!(sheet.replace(0, &ogive), Err(refusal(2)));
+    let column = |mach| Column {
+        mach,
+        reynolds: 0.0,
+    };
+    assert_eq!(sheet.set_column(1, column(0.0)), Err(refusal(8)));
+    let refused = domain(Quantity::Mach, INFINITY);
+    assert_eq!(sheet.set_column(0, column(INFINITY)), Err(refused));
+    assert_eq!((sheet.words(), sheet.cells()), (&words, &before[..]));
+}
+
+#[test]
+fn opens_refused() {
+    let number = |settings: &Settings, lent: usize| {
+        Sheet::open(settings, &mut vec![0.0; lent])
+            .map(|_| ())
+            .map_err(|refusal| refusal.number)
+    };
+    assert_eq!(number(&settings(), ROWS), Ok(()));
+    assert_eq!(number(&settings(), ROWS - 1), Err(10));
+    let mut wide = settings();
+    wide.columns = vec![wide.columns[0]; COLUMNS];
+    assert_eq!(number(&wide, ROWS * COLUMNS), Ok(()));
+    wide.columns.push(wide.columns[0]);
+    assert_eq!(number(&wide, ROWS * (COLUMNS + 1)), Err(7));
+    let mut bad = settings();
+    bad.reference_diameter = NAN;
+    assert_eq!(number(&bad, ROWS), Err(11));
+    let mut bad = settings();
+    bad.body_fineness = 0.0;
+    assert_eq!(number(&bad, ROWS), Err(1));
+    let mut none = settings();
+    none.columns.clear();
+    assert_eq!(number(&none, 0), Ok(()));
+}
+
+/// Document 01's bytes.
+fn stream() -> Vec<u8> {
+    let one = 1.0f64.to_le_bytes();
+    let mut bytes = vec![0x0d];
+    bytes.extend([one, one].concat());
+    bytes.push(1);
+    bytes.extend([0; 16]);
+    bytes.push(8);
+    bytes.extend(one);
+    bytes
+}
+
+#[test]
+fn cards() {
+    let bytes = stream();
+    let (read, next) = Settings::read(&bytes, 0).unwrap();
+    assert_eq!((read, next), (settings(), 34));
+    assert_eq!(Part::read(&bytes, next), Ok((FACE, 43)));
+    assert_eq!(Part::read(&bytes, 43), Err(refusal(4)));
+    assert_eq!(Part::read(&bytes, usize::MAX), Err(refusal(4)));
+    assert_eq!(Part::read(&[0x40], 0), Err(refusal(5)));
+    assert_eq!(Part::read(&[0x01, 0x06], 0), Err(refusal(5)));
+    assert_eq!(Part::read(&[0x01, 0x01], 0), Err(refusal(6)));
+    assert_eq!(Settings::read(&[], 0), Err(refusal(4)));
+    assert_eq!(Settings::read(&[0x01], 0), Err(refusal(6)));
+    let mut many = bytes.clone();
+    many[17] = 33;
+    assert_eq!(Settings::read(&many, 0), Err(refusal(7)));
+}
+
+#[test]
+fn printed() {
+    assert_eq!(
+        print(&stream()),
+        "mach 0000000000000000\npart 0 3feb333333333333\nfriction 0000000000000000\n\
+         base 3fbeb851eb851eb8\ntotal 3fef0a3d70a3d70a\n"
+    );
+    assert_eq!(print(&[]), "refused 4 card 0\n");
+    assert_eq!(print(&[0x0d]), "refused 4 card 0\n");
+}
+
+/// The longest text there is: 16 parts and 32 columns.
+#[test]
+fn longest_print() {
+    let one = 1.0f64.to_le_bytes();
+    let mut bytes = vec![0x0d];
+    bytes.extend([one, one].concat());
+    bytes.push(32);
+    bytes.extend([0; 16 * 32]);
+    bytes.extend([0; 16]);
+    let text = print(&bytes);
+    assert_eq!((text.lines().count(), text.len()), (20, 11023));
+    bytes.push(0);
+    assert_eq!(print(&bytes), "refused 9 card 17\n");
+}
+
+/// What the types can't say is tested by the library: numbers that name nothing.
+#[test]
+fn words_that_name_nothing() {
+    use cobalnis::words;
+    assert_eq!(words::formula(20, [1.0; 5]), (65535, 0));
+    assert_eq!(words::check_dimension(0, 1.0, true), (65535, 0));
+    assert_eq!(words::check_dimension(23, 1.0, true), (65535, 0));
+    assert_eq!(words::takes_cone_formula(6, 1.0), 65535);
+    assert_eq!(words::nose_point(9, 0), (65535, [0; 2]));
+    assert_eq!(words::nose_lookup(9, 1.0), (65535, [0; 3]));
+    assert_eq!(words::curve(7, [1.0; 3], &[], &mut []), (65535, [0; 3]));
+    let mut longer = [7; 2];
+    assert_eq!(words::curve(6, [1.0; 3], &[0.0], &mut longer).0, 0);
+    assert_eq!(longer, [0.85f64.to_bits(), 7]);
+    let (status, about) = words::curve(6, [1.0; 3], &[0.0], &mut []);
+    assert_eq!((status, about[1]), (10, 0.85f64.to_bits()));
+    let mut sheet = [0; words::SHEET_WORDS];
+    sheet[words::SHEET_WORDS - words::PART_WORDS] = 6;
+    assert_eq!(words::remove(&mut sheet, 0, &mut []), (5, 0));
+    assert_eq!(words::print(&stream(), &mut [0; 11032]), 0);
+}
