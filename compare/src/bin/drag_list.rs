@@ -1,7 +1,7 @@
 //! Prints stored answers of the original's drag.rs and of `check_dimension`, with ln, powf and sin
 //! replaced by document 01's fixed steps, for the program that replays them.
 //!
-//!     cargo run --release --offline --bin drag_list > lists/drag.txt
+//!     cargo run --release --offline --bin drag_list > ../crates/drag_vectors/stdin
 //!
 //! A line is 76 bytes: the tag, three arguments of 16 hexadecimal digits (the bits of a float;
 //! zeros where there is none), the refusal number (00 accepted, 01 `Domain`), document 01's code

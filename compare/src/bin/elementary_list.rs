@@ -1,6 +1,6 @@
 //! Prints stored answers of document 01's fixed steps, for the program that replays them.
 //!
-//!     cargo run --release --offline --bin elementary_list > lists/elementary.txt
+//!     cargo run --release --offline --bin elementary_list > ../crates/elementary_vectors/stdin
 //!
 //! A line is 53 bytes: the tag (`s` sqrt, `l` ln, `e` exp, `p` powf, `n` sin), the bits of x, the
 //! bits of y (zeros where there is none) and the bits of the answer, 16 hexadecimal digits each,

@@ -1,7 +1,7 @@
 //! Prints stored answers of the original's nose_drag.rs, with ln, powf and sin replaced by
 //! document 01's fixed steps, for the program that replays them.
 //!
-//!     cargo run --release --offline --bin nose_list > lists/nose.txt
+//!     cargo run --release --offline --bin nose_list > ../crates/nose_vectors/stdin
 //!
 //! A line is 110 bytes: the tag, five arguments of 16 hexadecimal digits (the bits of a float, or
 //! a whole number where said so; zeros where there is none), the refusal number (00 accepted, 01

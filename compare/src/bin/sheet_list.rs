@@ -1,7 +1,7 @@
 //! Prints lists of calls on a sheet with the answers and the cells that the model of document 01's
 //! sheet gives, for the program that replays them.
 //!
-//!     cargo run --release --offline --bin sheet_list > lists/sheet.txt
+//!     cargo run --release --offline --bin sheet_list > ../crates/sheet_vectors/stdin
 //!
 //! A line is 161 bytes: the tag, seven arguments of 16 hexadecimal digits (zeros where there is
 //! none), the refusal number (00 accepted), document 01's code of the refusal (00 for none), 16

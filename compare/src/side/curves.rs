@@ -180,8 +180,9 @@ fn lists(longer: bool, count: u64, random: &mut Random) -> Row {
         let (mut port_out, mut their_out) = (vec![7; room], vec![7; room]);
         let port = words::curve(shape, x, &machs, &mut port_out);
         let theirs = mirror::curve(shape, x, &machs, &mut their_out);
-        // What a refused call leaves in the output is open.
-        let agree = port == theirs && (theirs.0 != 0 || port_out == their_out);
+        // A refused call leaves the output as it was.
+        let kept = theirs.0 == 0 || port_out.iter().all(|&word| word == 7);
+        let agree = port == theirs && kept && (theirs.0 != 0 || port_out == their_out);
         row.note(theirs.0, agree, || {
             let mut arguments = vec![shape];
             arguments.extend(x.iter().chain(&machs).map(|x| x.to_bits()));

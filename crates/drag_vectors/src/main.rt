@@ -1,5 +1,8 @@
 // Replays the stored answers of the original's drag.rs and of check_dimension from standard input and prints how many agree: refusal
 // number, code and value. A line is a tag, three arguments, and those three. A line that can't be read counts as not agreeing.
+//
+// The list, `stdin` beside this folder, is made in compare/:
+//     cargo run --release --offline --bin drag_list > ../crates/drag_vectors/stdin
 ghost use mathlib.Core.Path.{_≡_};
 ghost use Rattle.replay.specs.Fields.{tagOf};
 ghost use Rattle.replay.specs.Counts.{counted};

@@ -1,5 +1,8 @@
 // Replays the stored answers of document 01's fixed steps from standard input and prints how many agree. A line is a tag (`s` sqrt,
 // `l` ln, `e` exp, `p` powf, `n` sin), the bits of x, of y and of the answer. A line that can't be read counts as not agreeing.
+//
+// The list, `stdin` beside this folder, is made in compare/:
+//     cargo run --release --offline --bin elementary_list > ../crates/elementary_vectors/stdin
 ghost use mathlib.Core.Path.{_≡_};
 ghost use Rattle.replay.specs.Fields.{tagOf};
 ghost use Rattle.replay.specs.Counts.{counted};

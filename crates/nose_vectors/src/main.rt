@@ -1,5 +1,8 @@
 // Replays the stored answers of the original's nose_drag.rs from standard input and prints how many agree: refusal number, code and
 // value. A line is a tag, five arguments, and those three. A line that can't be read counts as not agreeing.
+//
+// The list, `stdin` beside this folder, is made in compare/:
+//     cargo run --release --offline --bin nose_list > ../crates/nose_vectors/stdin
 ghost use mathlib.Core.Path.{_≡_};
 ghost use Rattle.replay.specs.Fields.{tagOf};
 ghost use Rattle.replay.specs.Counts.{counted};

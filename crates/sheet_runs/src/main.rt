@@ -1,5 +1,6 @@
 // Runs many streams of card bytes and prints what `sheet` would print for each. Standard input holds
-// the streams one after the other, each after its length in two bytes, low byte first.
+// the streams one after the other, each after its length in two bytes, low byte first;
+// `streams.py write > stdin` in this crate's folder makes it.
 ghost use Prim.Native.Nat.{_<_};
 
 fn show(s: &[u8]) {

@@ -2,6 +2,9 @@
 // state after the call, which is the sheet handed back and every cell. The stored lines are those of a model of document 01's sheet.
 // A line is a tag, seven arguments, the refusal, its code and value, and the state's number. Some lines change the state by hand, so
 // that a call meets any sheet and any cells; they are no calls and aren't counted, unless they don't agree.
+//
+// The list, `stdin` beside this folder, is made in compare/:
+//     cargo run --release --offline --bin sheet_list > ../crates/sheet_vectors/stdin
 use drag_sheet::Answer;
 use drag_sheet::Design;
 use drag_sheet::Outcome;
