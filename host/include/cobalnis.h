@@ -213,6 +213,15 @@ static inline double cobalnis_double(uint64_t bits)
     return x;
 }
 
+/* The bits of a number, 7ff8000000000000 for every NaN: so a cell is handed
+ * out. The library writes cells as doubles, and a NaN's own bits are any. */
+static inline uint64_t cobalnis_bits(double x)
+{
+    uint64_t bits;
+    memcpy(&bits, &x, sizeof bits);
+    return (bits & 0x7fffffffffffffffu) > 0x7ff0000000000000u ? 0x7ff8000000000000u : bits;
+}
+
 /* A status, with the value for whoever asked for it. */
 static inline uint32_t cobalnis_answer(uint32_t status, uint64_t bits, double *value)
 {

@@ -145,15 +145,16 @@ impl<'cells> Sheet<'cells> {
     /// them are never written.
     pub fn open(settings: &Settings, cells: &'cells mut [f64]) -> Result<Self, Refusal> {
         let mut words = settings.words();
-        let (status, bits) = c::open(&mut words, cells);
-        Refusal::of(status, bits)?;
-        Ok(Self { words, cells })
+        let answer = c::open(&mut words, cells);
+        let mut sheet = Self { words, cells };
+        sheet.accept(answer)?;
+        Ok(sheet)
     }
 
     /// Puts a part in at a place; the parts from that place on move up one.
     pub fn insert(&mut self, place: usize, part: &Part) -> Result<(), Refusal> {
-        let (status, bits) = c::insert(&mut self.words, place, &part.words(), self.cells);
-        Refusal::of(status, bits)
+        let answer = c::insert(&mut self.words, place, &part.words(), self.cells);
+        self.accept(answer)
     }
 
     /// Puts a part in at the end.
@@ -163,21 +164,21 @@ impl<'cells> Sheet<'cells> {
 
     /// Puts another part at a place.
     pub fn replace(&mut self, place: usize, part: &Part) -> Result<(), Refusal> {
-        let (status, bits) = c::replace(&mut self.words, place, &part.words(), self.cells);
-        Refusal::of(status, bits)
+        let answer = c::replace(&mut self.words, place, &part.words(), self.cells);
+        self.accept(answer)
     }
 
     /// Takes a part out; those after it move down one.
     pub fn remove(&mut self, place: usize) -> Result<(), Refusal> {
-        let (status, bits) = c::remove(&mut self.words, place, self.cells);
-        Refusal::of(status, bits)
+        let answer = c::remove(&mut self.words, place, self.cells);
+        self.accept(answer)
     }
 
     /// Asks a column at another Mach and Reynolds number.
     pub fn set_column(&mut self, at: usize, column: Column) -> Result<(), Refusal> {
         let Column { mach, reynolds } = column;
-        let (status, bits) = c::set_column(&mut self.words, at, mach, reynolds, self.cells);
-        Refusal::of(status, bits)
+        let answer = c::set_column(&mut self.words, at, mach, reynolds, self.cells);
+        self.accept(answer)
     }
 
     pub fn settings(&self) -> Settings {
@@ -229,6 +230,14 @@ impl<'cells> Sheet<'cells> {
     /// The sheet's words, as the C interface has them.
     pub fn words(&self) -> &SheetWords {
         &self.words
+    }
+
+    /// A call's answer; an accepted call's NaN cells get document 01's bits.
+    fn accept(&mut self, (status, bits): (u32, u64)) -> Result<(), Refusal> {
+        Refusal::of(status, bits)?;
+        let used = ROWS * self.column_count();
+        c::settle(&mut self.cells[..used]);
+        Ok(())
     }
 
     fn row(&self, row: usize) -> &[f64] {

@@ -254,6 +254,19 @@ static void sheet_refusals(void)
     CHECK(cobalnis_sheet_open(&sheet, cells, COBALNIS_ROWS, NULL) == COBALNIS_HOUSE_INTERVAL);
 }
 
+/* A body so short that its form factor overflows, with nothing wetted: the
+ * friction is a NaN. */
+static void nan_cells(void)
+{
+    double cells[COBALNIS_ROWS];
+    cobalnis_sheet sheet = {.reference_diameter = 1, .body_fineness = 1e-320, .columns = 1};
+    CHECK(cobalnis_sheet_open(&sheet, cells, COBALNIS_ROWS, NULL) == 0);
+    CHECK(cobalnis_bits(cells[COBALNIS_FRICTION]) == SHOWN_NAN);
+    CHECK(cobalnis_bits(cells[COBALNIS_TOTAL]) == SHOWN_NAN);
+    CHECK(cobalnis_bits(-0.0) == 0x8000000000000000u && cobalnis_bits(-NAN) == SHOWN_NAN);
+    CHECK(cobalnis_bits(INFINITY) == 0x7ff0000000000000u);
+}
+
 /* The words' functions themselves, which the typed ones pass on to. */
 static void raw_sheet(void)
 {
@@ -314,6 +327,7 @@ int main(void)
     curves();
     sheet_calls();
     sheet_refusals();
+    nan_cells();
     raw_sheet();
     cards();
     return failures > 0;

@@ -296,6 +296,27 @@ fn edits_refused() {
     assert_eq!((sheet.words(), sheet.cells()), (&words, &before[..]));
 }
 
+/// A body so short that its form factor overflows, with nothing wetted: the friction is a NaN.
+#[test]
+fn nan_cells_have_the_papers_bits() {
+    let settings = Settings {
+        reference_diameter: 1.0,
+        roughness: 0.0,
+        body_fineness: 1e-320,
+        columns: vec![Column {
+            mach: 0.0,
+            reynolds: 0.0,
+        }],
+    };
+    let mut cells = [-f64::NAN; ROWS + 1];
+    let past = cells[ROWS].to_bits();
+    let sheet = Sheet::open(&settings, &mut cells).expect("a fineness above 0 is taken");
+    assert_eq!(sheet.friction()[0].to_bits(), 0x7ff8_0000_0000_0000);
+    assert_eq!(sheet.total()[0].to_bits(), 0x7ff8_0000_0000_0000);
+    assert_eq!(sheet.base()[0].to_bits(), 0);
+    assert_eq!(sheet.cells()[ROWS].to_bits(), past);
+}
+
 #[test]
 fn opens_refused() {
     let number = |settings: &Settings, lent: usize| {
