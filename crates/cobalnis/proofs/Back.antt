@@ -3,7 +3,7 @@
 -- Assumes nothing.
 use mathlib.Core.Path.{_≡_, refl, sym, ap, _∙_, subst}
 use mathlib.Core.List.{List, [], _∷_, _++_, append-assoc, append-nil}
-use Prim.Native.Nat.{ℕ, suc, _+_, _*_}
+use Prim.Native.Nat.{ℕ}
 use native.Mathlib.Omega.{arith}
 use lib.Dec.{T}
 use lib.ListN.{length, getD, drop, length-append}
@@ -17,7 +17,7 @@ use Rattle.elementary.specs.Arithmetic.{bits}
 use Rattle.drag_sheet.specs.declared.Part.{Part}
 use Rattle.drag_sheet.specs.declared.Sheet.{Sheet}
 use Rattle.cards.specs.Cards.{shapeOf}
-use Rattle.cobalnis.specs.Words.{every, spread, float, floatWords, parameterOf, partOf, partWords, settingsWords, sheetOf, sheetWords}
+use Rattle.cobalnis.specs.Words.{every, spread, float, floatWords, parameterOf, partOf, partWords, sheetOf, sheetWords}
 use Rattle.cobalnis.proofs.Turns.{spread-long}
 
 -- ---- what the types say

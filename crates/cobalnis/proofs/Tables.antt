@@ -1,11 +1,10 @@
 -- What is left of a number once a `match` has named the ones below it, and what stands past the end of a table of names. Assumes nothing.
 use mathlib.Core.Path.{_≡_, refl, sym, ap, _∙_}
-use mathlib.Core.List.{List, [], _∷_}
+use mathlib.Core.List.{[], _∷_}
 use Prim.Native.Nat.{ℕ, zero, suc, _+_, _-_, _*_, _≤_}
 use native.Mathlib.Omega.{arith}
 use lib.ListN.{getD}
 use lib.Seq.{getD-drop}
-use Rattle.stoney.specs.declared.StoneyNose.{StoneyNose}
 use Rattle.stoney.specs.declared.StoneyNose.the-variants.{VonKarman}
 use Rattle.stoney.specs.Tables.{noses}
 use lib.Ieee.{Float, toBits, ofBits, binary64}

@@ -3,7 +3,7 @@
 use mathlib.Core.Path.{_≡_, refl, sym, ap, _∙_}
 use mathlib.Core.Bool.{Bool, true, false, cond}
 use mathlib.Core.List.{List, [], _∷_, _++_, append-assoc, append-nil}
-use Prim.Native.Nat.{ℕ, zero, suc, _+_, _-_, _*_, _<_, _≤_}
+use Prim.Native.Nat.{ℕ, zero, suc, _+_, _-_, _*_, _<_}
 use native.Mathlib.Numerals.{add-one}
 use native.Mathlib.Nat.{suc-mul}
 use native.Mathlib.Omega.{arith}
@@ -11,7 +11,6 @@ use lib.ListN.{length, set, getD, drop, replicate, length-append, drop-of-length
 use lib.Seq.{set-at, sets, sets-eq, drop-cons, drop-drop, getD-drop}
 use lib.Dec.{ltb}
 use lib.Ieee.{Float}
-use Rattle.aero_error.specs.declared.Check.the-variants.{Passed}
 use Rattle.drag.specs.Friction.{machChecked}
 use Rattle.drag_sheet.specs.Tests.{_then_}
 use Rattle.sheet_text.proofs.Puts.{sets-append}

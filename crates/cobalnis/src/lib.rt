@@ -19,7 +19,7 @@ ghost use Rattle.cards.specs.Cards.{shapeOf, partAt, settingsAt};
 ghost use Rattle.sheet_text.specs.Text.{Printed};
 ghost use lib.Ieee.{toBits, binary64};
 ghost use Rattle.cobalnis.specs.Words.{spread, partOf};
-ghost use Rattle.cobalnis.specs.Answers.{statusOf, no-such, answerStatus, answerBits, tested, formulaOf, FormulaDone, dimensionStatus, dimensionBits, noseAt, isNose, pointStatus, pointWords, lookupWords, curveOf, machsTest, coefficientBits, coefficientWord, about, ReadAt, CurveDone, CurveAnswered, Shown, CallDone, OpenShown, sheetStands, partStands, PartCard, SettingsCard};
+ghost use Rattle.cobalnis.specs.Answers.{statusOf, no-such, answerStatus, answerBits, tested, formulaOf, FormulaDone, dimensionStatus, dimensionBits, noseAt, isNose, pointStatus, pointWords, lookupWords, curveOf, machsTest, coefficientBits, coefficientWord, about, ReadAt, CurveAnswered, Shown, CallDone, OpenShown, sheetStands, partStands, PartCard, SettingsCard};
 
 mod words;
 

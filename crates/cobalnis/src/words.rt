@@ -1,10 +1,8 @@
 // A part and a sheet as words of 64 bits, the form in which a program in C or Rust holds them. Every list of words of the right number
 // stands for a part or a sheet, whatever the words are, but for a shape's number above 5, which the callers refuse.
 ghost use mathlib.Core.Path.{_≡_};
-ghost use mathlib.Core.Bool.{Bool};
-ghost use mathlib.Core.List.{List};
-ghost use Prim.Native.Nat.{_+_, _*_, _≤_, _<_};
-ghost use lib.ListN.{length, drop};
+ghost use Prim.Native.Nat.{_≤_};
+ghost use lib.ListN.{drop};
 ghost use lib.Seq.{sets};
 ghost use Rattle.cards.specs.Cards.{shapeOf};
 ghost use Rattle.cobalnis.specs.Words.{every, spread, float, floatWords, parameterOf, partOf, partWords, settingsOf, settingsWords, sheetOf, sheetWords, shapesStand};

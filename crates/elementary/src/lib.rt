@@ -4,11 +4,10 @@
 ghost use mathlib.Core.Path.{_≡_};
 ghost use mathlib.Core.Bool.{false};
 ghost use Prim.Native.Nat.{_+_, _-_, _*_, _≤_, _<_, _^_};
-ghost use lib.Dec.{T};
 ghost use lib.Ieee.{nan, inf, binary64, toBits, ofBits, minus};
 ghost use Rattle.elementary.specs.Split.{splitOf, floorOf, two^, signed, Taken, Within, floorSize};
 ghost use Rattle.elementary.specs.Arithmetic.{whole};
-ghost use Rattle.elementary.specs.Root.{rootOf, nearestRoot};
+ghost use Rattle.elementary.specs.Root.{nearestRoot};
 ghost use Rattle.elementary.specs.Steps.{SQRT, LN, EXP, POW, SIN, lnSum, sqrtSteps, lnSteps, expSteps, expSeries, wholeOf};
 
 pub const LN_2: f64 = 0.6931471805599453;

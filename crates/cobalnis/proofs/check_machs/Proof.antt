@@ -2,7 +2,7 @@
 use lib.Ieee.{nan}
 use lib.ListN.{drop-of-length-le}
 use mathlib.Core.Path.{_≡_, refl, sym, ap, _∙_}
-use Prim.Native.Nat.{ℕ, _+_, _-_, _*_, _≤_, _<_}
+use Prim.Native.Nat.{_-_, _≤_}
 use native.Mathlib.Omega.{arith}
 use lib.ListN.{length, drop}
 use Rattle.cobalnis.specs.Answers.{machsTest}

@@ -1,5 +1,5 @@
 -- `cobalnis::cobalnis_check_dimension` meets its contract.
-use mathlib.Core.Path.{_≡_, refl, sym, ap, _∙_}
+use mathlib.Core.Path.{ap, _∙_}
 use borrow.Author.Tests.{le-leb, lt-leb, eq-eqb, ne-eqb}
 use Rattle.aero_error.specs.Checks.{dimension}
 use Rattle.cobalnis.specs.Answers.{answerStatus, answerBits, tested}

@@ -2,7 +2,7 @@
 use Rattle.stoney.specs.declared.PointRange.{PointRange}
 use Rattle.stoney.specs.Points.{rangeOf, range-within}
 use borrow.Author.Tests.{le-leb, lt-leb}
-use mathlib.Core.Path.{_≡_, refl, sym, ap, _∙_}
+use mathlib.Core.Path.{ap, _∙_}
 use native.Mathlib.Omega.{arith}
 use borrow.Author.Needs.{needs}
 use Rattle.cobalnis.proofs.cobalnis_nose_point.Statement.{statement}

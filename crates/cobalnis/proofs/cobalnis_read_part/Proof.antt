@@ -1,5 +1,5 @@
 -- `cobalnis::cobalnis_read_part` meets its contract.
-use mathlib.Core.Path.{_≡_, refl, sym, ap, _∙_}
+use mathlib.Core.Path.{refl}
 use borrow.Author.Needs.{needs}
 use Rattle.cobalnis.proofs.cobalnis_read_part.Statement.{statement}
 use Rattle.cobalnis.proofs.cobalnis_read_part.Tie as tie

@@ -1,5 +1,5 @@
 -- `cobalnis::cobalnis_read_settings` meets its contract.
-use mathlib.Core.Path.{_≡_, refl, sym, ap, _∙_}
+use mathlib.Core.Path.{refl}
 use borrow.Author.Needs.{needs}
 use Rattle.cobalnis.proofs.cobalnis_read_settings.Statement.{statement}
 use Rattle.cobalnis.proofs.cobalnis_read_settings.Tie as tie

@@ -1,5 +1,5 @@
 -- `cobalnis::cobalnis_remove` meets its contract.
-use mathlib.Core.Path.{_≡_, refl, sym, ap, _∙_}
+use mathlib.Core.Path.{refl, _∙_}
 use Rattle.cobalnis.proofs.Tables.{zero-bits}
 use borrow.Author.Needs.{needs}
 use Rattle.cobalnis.proofs.cobalnis_remove.Statement.{statement}

@@ -1,5 +1,5 @@
 -- `cobalnis::formula_of` meets its contract: past its last entry the table answers `Unknown`.
-use mathlib.Core.Path.{_≡_, refl, sym, ap, _∙_}
+use mathlib.Core.Path.{sym}
 use native.Mathlib.Omega.{arith}
 use lib.ListN.{List·getD-eq-default}
 use Rattle.cobalnis.specs.Answers.{formulas}

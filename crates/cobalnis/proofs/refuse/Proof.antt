@@ -1,5 +1,5 @@
 -- `cobalnis::refuse` meets its contract.
-use mathlib.Core.Path.{_≡_, refl, sym, ap, _∙_}
+use mathlib.Core.Path.{ap, _∙_}
 use lib.Ieee.{toBits, binary64}
 use borrow.Author.Needs.{needs}
 use Rattle.cobalnis.proofs.refuse.Statement.{statement}

@@ -1,5 +1,5 @@
 -- `cobalnis::show` meets its contract.
-use mathlib.Core.Path.{_≡_, refl, sym, ap, _∙_}
+use mathlib.Core.Path.{refl}
 use borrow.Author.Needs.{needs}
 use Rattle.cobalnis.proofs.show.Statement.{statement}
 use Rattle.cobalnis.proofs.show.Tie as tie

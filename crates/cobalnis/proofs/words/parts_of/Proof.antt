@@ -1,7 +1,7 @@
 -- `cobalnis::words::parts_of` meets its contract: after i turns the first i slots hold their parts.
 use mathlib.Core.Path.{_≡_, refl, sym, ap, _∙_}
 use mathlib.Core.List.{List, _++_, append-nil}
-use Prim.Native.Nat.{ℕ, _+_, _-_, _*_, _≤_, _<_}
+use Prim.Native.Nat.{ℕ, _+_, _-_, _*_, _≤_}
 use native.Mathlib.Omega.{arith}
 use lib.ListN.{set, drop, replicate}
 use lib.Seq.{drop-drop}

@@ -1,7 +1,7 @@
 -- `cobalnis::words::put_part` meets its contract.
-use mathlib.Core.Path.{_≡_, refl, sym, ap, _∙_}
+use mathlib.Core.Path.{ap, _∙_}
 use mathlib.Core.List.{List}
-use Prim.Native.Nat.{ℕ, _+_, _-_, _*_, _≤_, _<_}
+use Prim.Native.Nat.{ℕ, _+_}
 use lib.ListN.{set, getD}
 use Rattle.cobalnis.proofs.Turns.{six-words}
 use borrow.Author.Needs.{needs}

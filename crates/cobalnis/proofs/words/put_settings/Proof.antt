@@ -1,8 +1,8 @@
 -- `cobalnis::words::put_settings` meets its contract.
-use mathlib.Core.List.{List, _∷_, _++_}
+use mathlib.Core.List.{List}
 use mathlib.Core.Path.{_≡_, refl, sym, ap, _∙_}
 use native.Mathlib.Omega.{arith}
-use Prim.Native.Nat.{ℕ, _+_, _-_, _*_, _≤_, _<_}
+use Prim.Native.Nat.{ℕ, _+_}
 use lib.ListN.{length, set, length-map}
 use lib.Seq.{sets}
 use Rattle.cobalnis.specs.Words.{spread, floatWords}

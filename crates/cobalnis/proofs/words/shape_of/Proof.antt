@@ -1,6 +1,6 @@
 -- `cobalnis::words::shape_of` meets its contract.
 use borrow.Author.Tests.{ne-eqb}
-use borrow.Author.Tests.{eq-eqb, ne-eqb}
+use borrow.Author.Tests.{ne-eqb}
 use Rattle.cobalnis.proofs.words.shape_of.Statement.{statement}
 use Rattle.cobalnis.proofs.words.shape_of.Tie as tie
 

@@ -1,7 +1,7 @@
 -- `cobalnis::words::sheet_words` meets its contract: the settings, the number of parts and the parts, put one after the other, are all the words.
 use mathlib.Core.Path.{_≡_, refl, sym, ap, _∙_}
 use native.Mathlib.Omega.{arith}
-use Prim.Native.Nat.{ℕ, _+_, _-_, _*_, _≤_, _<_}
+use Prim.Native.Nat.{ℕ, _+_}
 use mathlib.Core.List.{List, _∷_, _++_}
 use lib.ListN.{length, replicate, length-map, length-append}
 use lib.Seq.{sets}
