@@ -1,5 +1,5 @@
 -- Stagnation pressure, base drag, joint drag and the boattail rule (Niskanen 2009, eq. 3.86 to 3.94 and appendix B), as drag.rs computes them.
-use mathlib.Core.Bool.{true, false, cond, _&&_}
+use mathlib.Core.Bool.{true, cond, _&&_}
 use lib.Ieee.{Float}
 use lib.Ieee.Scale.{finite}
 use Rattle.elementary.specs.Arithmetic.{_⊕_, _⊖_, _⊗_, _⊘_, _≺_, _≼_}

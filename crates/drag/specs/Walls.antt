@@ -5,7 +5,7 @@ use mathlib.Core.Bool.{Bool, true, false, cond}
 use lib.Ieee.{Float}
 use Rattle.elementary.specs.Arithmetic.{_⊕_, _⊖_, _⊗_, _⊘_, _≺_, _≼_}
 use Rattle.elementary.specs.Steps.{POW}
-use Rattle.elementary.specs.Constants.{1·0}
+use Rattle.elementary.specs.Constants.{0·0, 1·0}
 use Rattle.aero_error.specs.declared.Check.{Check}
 use Rattle.aero_error.specs.declared.Check.the-variants.{Passed, Failed}
 use Rattle.aero_error.specs.declared.Coefficient.{Coefficient}
@@ -18,13 +18,21 @@ use Rattle.drag.specs.declared.Wall.{Wall}
 use Rattle.drag.specs.Constants.{0·032, 0·1, 0·15, 0·18, 0·2, 0·58, LOW-REYNOLDS}
 use Rattle.drag.specs.Friction.{machChecked, turbulentFriction, criticalReynolds, roughnessLimited, incompressibleSkinFriction, maxOf, compressible, skinFrictionCoefficient, _for-critical_, _for-limited_}
 
+-- limited from the critical Reynolds number up, or its refusal
+abbrev pub limitedFrom : Coefficient → Float → Limited
+limitedFrom critical R = critical for-critical λ at. Is (at ≼ R)
+
+-- eq. 3.80
+abbrev pub limitedFriction : Float → Float
+limitedFriction k = 0·032 ⊗ POW k 0·2
+
 abbrev pub wallOf : Float → Wall
-wallOf k = record { critical = criticalReynolds k; limited = 0·032 ⊗ POW k 0·2 }
+wallOf k = record { critical = criticalReynolds k; limited = limitedFriction k }
 
 unfoldable pub limitedOn : Wall → Float → Limited
 limitedOn wall R =
     cond (LOW-REYNOLDS ≼ R)
-    (wall .critical for-critical λ critical. Is (critical ≼ R))
+    (limitedFrom (wall .critical) R)
     (Is false)
 
 unfoldable pub frictionWhere : Bool → Float → Float → Float → Float
@@ -36,15 +44,25 @@ frictionWhere limited rough R M =
     (cond limited (maxOf (rough ⊘ (1·0 ⊕ 0·18 ⊗ m2)) turbulent) turbulent)
 
 unfoldable pub frictionOn : Wall → Float → Float → Coefficient
-unfolding limitedOn frictionWhere
 frictionOn wall R M =
     machChecked M and-then
     (required (dimension R true) Reynolds R and-then
     limitedOn wall R for-limited λ limited. Value (frictionWhere limited (wall .limited) R M))
 
+-- on a wall the roughness limits where it limits by itself
+pub limited-same : (k R : Float) → limitedOn (wallOf k) R ≡ roughnessLimited R k
+unfolding limitedOn roughnessLimited
+limited-same k R = refl
+
+-- the limited friction counts only where the roughness limits
+pub rough-where : (limited : Bool) (rough R M : Float) → frictionWhere limited (cond limited rough 0·0) R M ≡ frictionWhere limited rough R M
+unfolding frictionWhere
+rough-where true rough R M = refl
+rough-where false rough R M = refl
+
 -- a wall gives the friction of its roughness
 pub on-wall : (k R M : Float) → frictionOn (wallOf k) R M ≡ skinFrictionCoefficient R k M
-unfolding frictionOn skinFrictionCoefficient incompressibleSkinFriction compressible roughnessLimited
+unfolding frictionOn frictionWhere limitedOn skinFrictionCoefficient incompressibleSkinFriction compressible roughnessLimited
 on-wall k R M = by-check (machChecked M) (required (dimension R true) Reynolds R) (roughnessLimited R k)
   where
     -- the definitions, with the two checks and the roughness's answer set apart

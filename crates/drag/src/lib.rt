@@ -2,7 +2,9 @@
 // as functions of their inputs, with the Rust's names, order of tests and order of operations. Each answers the value or the refusal.
 ghost use mathlib.Core.Path.{_≡_};
 ghost use Rattle.drag.specs.Friction.{machChecked, turbulentFriction, criticalReynolds, roughnessLimited, incompressibleSkinFriction, maxOf, skinFrictionCoefficient, bodyFrictionFormFactor};
-ghost use Rattle.drag.specs.Walls.{wallOf, limitedOn, frictionWhere, frictionOn};
+ghost use Rattle.drag.specs.Walls.{limitedFrom, limitedFriction, wallOf, limitedOn, frictionWhere, frictionOn};
+ghost use mathlib.Core.Bool.{cond};
+ghost use Rattle.elementary.specs.Constants.{0·0};
 ghost use Rattle.drag.specs.Pressure.{stagnationRatio, stagnationPressureRatio, stagnationDragCoefficient, baseDragCoefficient, jointPressureDragCoefficient, boattailShare, boattailFactor};
 use aero_error::AeroError;
 use aero_error::Check;
@@ -61,15 +63,22 @@ pub fn critical_reynolds(relative_roughness: f64) -> Coefficient
     Coefficient::Value(51.0 * elementary::powf(relative_roughness, -1.039))
 }
 
+// Limited from the critical Reynolds number up, or its refusal.
+fn limited_from(critical: Coefficient, reynolds: f64) -> Limited
+    ensures { λ r. ⌜ r ≡ limitedFrom critical reynolds ⌝ }
+{
+    match critical {
+        Coefficient::Refused(refusal) => Limited::Refused(refusal),
+        Coefficient::Value(at) => Limited::Is(reynolds >= at),
+    }
+}
+
 // Never below LOW_REYNOLDS, where the roughness isn't looked at; from there on, from the critical Reynolds number up.
 fn roughness_limited(reynolds: f64, relative_roughness: f64) -> Limited
     ensures { λ r. ⌜ r ≡ roughnessLimited reynolds «relative_roughness» ⌝ }
 {
     if reynolds >= LOW_REYNOLDS {
-        match critical_reynolds(relative_roughness) {
-            Coefficient::Refused(refusal) => Limited::Refused(refusal),
-            Coefficient::Value(critical) => Limited::Is(reynolds >= critical),
-        }
+        limited_from(critical_reynolds(relative_roughness), reynolds)
     } else {
         Limited::Is(false)
     }
@@ -86,7 +95,7 @@ pub fn incompressible_skin_friction(reynolds: f64, relative_roughness: f64) -> C
         Limited::Refused(refusal) => Coefficient::Refused(refusal),
         Limited::Is(limited) => {
             if limited {
-                Coefficient::Value(0.032 * elementary::powf(relative_roughness, 0.2))
+                Coefficient::Value(limited_friction(true, relative_roughness))
             } else {
                 Coefficient::Value(turbulent_friction(reynolds))
             }
@@ -120,7 +129,7 @@ pub fn wall_of(relative_roughness: f64) -> Wall
     let critical = critical_reynolds(relative_roughness);
     Wall {
         critical,
-        limited: 0.032 * elementary::powf(relative_roughness, 0.2),
+        limited: limited_friction(true, relative_roughness),
     }
 }
 
@@ -128,12 +137,9 @@ pub fn wall_of(relative_roughness: f64) -> Wall
 fn limited_on(wall: Wall, reynolds: f64) -> Limited
     ensures { λ r. ⌜ r ≡ limitedOn wall reynolds ⌝ }
 {
-    if reynolds >= LOW_REYNOLDS {
+    if LOW_REYNOLDS <= reynolds {
         let critical = wall.critical;
-        match critical {
-            Coefficient::Refused(refusal) => Limited::Refused(refusal),
-            Coefficient::Value(at) => Limited::Is(reynolds >= at),
-        }
+        limited_from(critical, reynolds)
     } else {
         Limited::Is(false)
     }
@@ -178,6 +184,17 @@ pub fn friction_on(wall: Wall, reynolds: f64, mach: f64) -> Coefficient
     }
 }
 
+// The friction that a roughness limits (eq. 3.80), asked for only where it does.
+fn limited_friction(limited: bool, relative_roughness: f64) -> f64
+    ensures { λ r. ⌜ r ≡ cond limited (limitedFriction «relative_roughness») 0·0 ⌝ }
+{
+    if limited {
+        0.032 * elementary::powf(relative_roughness, 0.2)
+    } else {
+        0.0
+    }
+}
+
 // Skin friction with compressibility (eq. 3.82 to 3.84).
 pub fn skin_friction_coefficient(reynolds: f64, relative_roughness: f64, mach: f64) -> Coefficient
     ensures { λ r. ⌜ r ≡ skinFrictionCoefficient reynolds «relative_roughness» mach ⌝ }
@@ -185,23 +202,14 @@ pub fn skin_friction_coefficient(reynolds: f64, relative_roughness: f64, mach: f
     if let Check::Failed(refusal) = check_mach_any(mach) {
         return Coefficient::Refused(refusal);
     }
-    let answer = incompressible_skin_friction(reynolds, relative_roughness);
-    let Coefficient::Value(cf) = answer else {
-        return answer;
-    };
-    let m2 = mach * mach;
-    if mach < 1.0 {
-        return Coefficient::Value(cf * (1.0 - 0.1 * m2));
+    if let Check::Failed(refusal) = check_dimension(Quantity::Reynolds, reynolds, true) {
+        return Coefficient::Refused(refusal);
     }
-    let turbulent = turbulent_friction(reynolds) / elementary::powf(1.0 + 0.15 * m2, 0.58);
     match roughness_limited(reynolds, relative_roughness) {
         Limited::Refused(refusal) => Coefficient::Refused(refusal),
         Limited::Is(limited) => {
-            if limited {
-                Coefficient::Value(max(cf / (1.0 + 0.18 * m2), turbulent))
-            } else {
-                Coefficient::Value(turbulent)
-            }
+            let rough = limited_friction(limited, relative_roughness);
+            Coefficient::Value(friction_where(limited, rough, reynolds, mach))
         }
     }
 }

@@ -21,7 +21,7 @@ unfolding incompressibleSkinFriction
 rough c =
     let asked = c .before .before .before .before .before in
     simp
-    (← asked .before .before .before .check-dimension .ensures, asked .before .enum-told .given .1, ← asked .roughness-limited .ensures, c .before .before .before .limited .given .1, c .before .if1 .taken, c .powf .ensures)
+    (← asked .before .before .before .check-dimension .ensures, asked .before .enum-told .given .1, ← asked .roughness-limited .ensures, c .before .before .before .limited .given .1, c .before .if1 .taken, c .limited-friction .ensures)
 
 smooth : tie.Need-returns-4
 unfolding incompressibleSkinFriction

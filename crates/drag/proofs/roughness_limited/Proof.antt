@@ -1,4 +1,4 @@
--- `roughness_limited` meets its contract: below the low Reynolds number nothing is looked at; above it the critical number's refusal is handed on, or the comparison made.
+-- `roughness_limited` meets its contract: below the low Reynolds number nothing is looked at; above it the critical number decides, or its refusal is handed on.
 -- Assumes nothing.
 use borrow.Author.Needs.{needs}
 use Rattle.drag.specs.Friction.{roughnessLimited}
@@ -11,8 +11,6 @@ roughness-limited-spec =
     tie.close
     (tie.spec
     (λ c κs. search needs)
-    (λ c. search needs)
-    (λ c. search needs)
-    (λ c. simp (c .before .before .before .before .if1 .taken, ← c .before .before .before .critical-reynolds .ensures, c .before .refusal .given .1))
-    (λ c. simp (c .before .before .before .before .if1 .taken, ← c .before .before .before .critical-reynolds .ensures, c .before .critical .given .1))
+    (λ c κs. search needs)
+    (λ c. simp (c .before .before .if1 .taken, ← c .before .critical-reynolds .ensures, c .limited-from .ensures))
     (λ c. simp (c .if1 .left)))

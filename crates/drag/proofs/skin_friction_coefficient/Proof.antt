@@ -1,79 +1,74 @@
--- `skin_friction_coefficient` meets its contract: once the incompressible value is known the answer is `compressible` of it, whose arms are the code's.
--- Assumes nothing.
-use mathlib.Core.Path.{_≡_}
+-- `drag::skin_friction_coefficient` meets its contract: it is the friction on a wall of that roughness.
+use Rattle.drag.specs.Walls.{frictionOn, limited-same, rough-where, on-wall}
 use borrow.Author.Needs.{needs}
-use Rattle.drag.specs.Friction.{skinFrictionCoefficient, compressible}
 use Rattle.drag.proofs.skin_friction_coefficient.Statement.{statement}
 use Rattle.drag.proofs.skin_friction_coefficient.Tie as tie
 
--- what is left of the definition where the incompressible value is known
-cf-known :
-    (c : tie.After-known-told2) →
-    let a = c .before .before .before .before .before .before .before .args in
-    skinFrictionCoefficient (a .reynolds) (a .relative-roughness) (a .mach)
-    ≡ compressible (a .reynolds) (a .relative-roughness) (a .mach) (c .before .answer .given .0 .0)
-unfolding skinFrictionCoefficient
-cf-known c =
-    let asked = c .before .before .before in
-    simp
-    (← asked .before .before .before .check-mach-any .ensures, asked .before .enum-told .given .1, ← asked .incompressible-skin-friction .ensures, c .before .answer .given .1)
+check-mach-any-requires : tie.Need-check-mach-any-requires
+check-mach-any-requires c κs = search needs
 
-refused : tie.Need-returns
-unfolding skinFrictionCoefficient
-refused c = simp (← c .before .before .before .check-mach-any .ensures, c .before .refusal .given .1)
+enum-known-refusal : tie.Need-enum-known-refusal
+enum-known-refusal c = search needs
 
-refused-2 : tie.Need-returns-2
-unfolding skinFrictionCoefficient
-refused-2 c =
-    let asked = c .before .before in
-    simp
-    (← asked .before .before .before .check-mach-any .ensures, asked .before .enum-told .given .1, ← asked .incompressible-skin-friction .ensures, c .enum-told2 .given .1)
+returns : tie.Need-returns
+unfolding frictionOn
+returns c = simp (← on-wall) (simp (← c .before .before .before .check-mach-any .ensures, c .before .refusal .given .1))
 
-subsonic : tie.Need-returns-3
-unfolding compressible
-subsonic c = simp (cf-known (c .before), c .if1 .taken)
+enum-told : tie.Need-enum-told
+enum-told c = search needs
 
--- the roughness, once passed, is not refused when asked again; no proof needs that, since the definition asks again too
-refused-3 : tie.Need-returns-4
-unfolding compressible
-refused-3 c =
-    let asked = c .before .before .before in
-    simp
-    (cf-known (asked .before .before .before .before), asked .before .before .before .if1 .left, ← asked .roughness-limited .ensures, c .before .refusal2 .given .1)
+check-dimension-requires : tie.Need-check-dimension-requires
+check-dimension-requires c κs = search needs
 
-rough : tie.Need-returns-5
-unfolding compressible
-rough c =
-    let asked = c .before .before .before .before .before in
-    simp
-    (cf-known (asked .before .before .before .before), asked .before .before .before .if1 .left, ← asked .roughness-limited .ensures, c .before .before .before .limited .given .1, c .before .if2 .taken, c .max .ensures, asked .before .powf .ensures, asked .before .before .turbulent-friction .ensures)
+enum-known-refusal-2 : tie.Need-enum-known-refusal-2
+enum-known-refusal-2 c = search needs
 
-turbulent : tie.Need-returns-6
-unfolding compressible
-turbulent c =
-    let asked = c .before .before .before .before in
-    simp
-    (cf-known (asked .before .before .before .before), asked .before .before .before .if1 .left, ← asked .roughness-limited .ensures, c .before .before .limited .given .1, c .if2 .left, asked .before .powf .ensures, asked .before .before .turbulent-friction .ensures)
+returns-2 : tie.Need-returns-2
+unfolding frictionOn
+returns-2 c = simp (← on-wall) (simp (← c .before .before .before .before .before .before .check-mach-any .ensures, c .before .before .before .before .enum-told .given .1, ← c .before .before .before .check-dimension .ensures, c .before .refusal2 .given .1))
+
+enum-told-2 : tie.Need-enum-told-2
+enum-told-2 c = search needs
+
+roughness-limited-requires : tie.Need-roughness-limited-requires
+roughness-limited-requires c κs = search needs
+
+enum-known-refusal-3 : tie.Need-enum-known-refusal-3
+enum-known-refusal-3 c = search needs
+
+enum-known-limited : tie.Need-enum-known-limited
+enum-known-limited c = search needs
+
+limited-friction-requires : tie.Need-limited-friction-requires
+limited-friction-requires c κs = search needs
+
+friction-where-requires : tie.Need-friction-where-requires
+friction-where-requires c κs = search needs
+
+returns-3 : tie.Need-returns-3
+unfolding frictionOn
+returns-3 c = simp (← on-wall) (simp (← c .before .before .before .before .before .before .before .before .before .check-mach-any .ensures, c .before .before .before .before .before .before .before .enum-told .given .1, ← c .before .before .before .before .before .before .check-dimension .ensures, c .before .before .before .before .enum-told2 .given .1, limited-same, ← c .before .before .before .roughness-limited .ensures, c .before .refusal3 .given .1))
+
+returns-4 : tie.Need-returns-4
+unfolding frictionOn
+returns-4 c = simp (← on-wall) (simp (← c .before .before .before .before .before .before .before .before .before .before .before .check-mach-any .ensures, c .before .before .before .before .before .before .before .before .before .enum-told .given .1, ← c .before .before .before .before .before .before .before .before .check-dimension .ensures, c .before .before .before .before .before .before .enum-told2 .given .1, limited-same, ← c .before .before .before .before .before .roughness-limited .ensures, c .before .before .before .limited .given .1, c .friction-where .ensures, c .before .limited-friction .ensures, rough-where))
 
 pub skin-friction-coefficient-spec : {M : Type 1} → statement M
 skin-friction-coefficient-spec =
     tie.close
     (tie.spec
-    (λ c κs. search needs)
-    (λ c. search needs)
-    refused
-    (λ c. search needs)
-    (λ c κs. search needs)
-    (λ c. search needs)
-    (λ c. search needs)
-    refused-2
-    subsonic
-    (λ c κs. search needs)
-    (λ c κs. search needs)
-    (λ c κs. search needs)
-    (λ c. search needs)
-    (λ c. search needs)
-    (λ c κs. search needs)
-    refused-3
-    rough
-    turbulent)
+    check-mach-any-requires
+    enum-known-refusal
+    returns
+    enum-told
+    check-dimension-requires
+    enum-known-refusal-2
+    returns-2
+    enum-told-2
+    roughness-limited-requires
+    enum-known-refusal-3
+    enum-known-limited
+    limited-friction-requires
+    friction-where-requires
+    returns-3
+    returns-4)

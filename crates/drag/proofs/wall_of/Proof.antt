@@ -6,11 +6,11 @@ use Rattle.drag.proofs.wall_of.Tie as tie
 critical-reynolds-requires : tie.Need-critical-reynolds-requires
 critical-reynolds-requires c κs = search needs
 
-powf-requires : tie.Need-powf-requires
-powf-requires c κs = search needs
+limited-friction-requires : tie.Need-limited-friction-requires
+limited-friction-requires c κs = search needs
 
 returns : tie.Need-returns
-returns c = simp (c .powf .ensures, c .before .critical-reynolds .ensures)
+returns c = simp (c .limited-friction .ensures, c .before .critical-reynolds .ensures)
 
 pub wall-of-spec : {M : Type 1} → statement M
-wall-of-spec = tie.close (tie.spec critical-reynolds-requires powf-requires returns)
+wall-of-spec = tie.close (tie.spec critical-reynolds-requires limited-friction-requires returns)
