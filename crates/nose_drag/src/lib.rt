@@ -5,9 +5,12 @@
 // cycle carries a depth number that falls at each call; `DEPTH` is enough for every curve, so no answer depends on it.
 ghost use mathlib.Core.Path.{_≡_};
 ghost use Prim.Native.Nat.{_≤_, suc};
+ghost use Rattle.elementary.specs.Arithmetic.{_⊗_, _⊘_};
+ghost use Rattle.elementary.specs.Steps.{POW};
 ghost use Rattle.nose_drag.specs.Forms.{stagnationDragSlope, blunt as bluntOf, hermite as hermiteOf, coneSupersonic, coneTransonic, sinHalfAngle, coneMethod};
 ghost use Rattle.nose_drag.specs.Below.{fitOf, fitAt, subsonicPressureDragCoefficient};
-ghost use Rattle.nose_drag.specs.Methods.{ogivePressureDragFactor, scaled as scaledOf, finenessScaledPressureDrag, ellipsoidLowSpeed, ellipsoidAtLeastRest, ellipsoidMeasured, ellipsoid as ellipsoidOf, ellipsoidSubsonicPressureDrag, referenceAt, methodAt};
+ghost use Rattle.nose_drag.specs.Values.{coneByRoot, scaledValue};
+ghost use Rattle.nose_drag.specs.Methods.{wholeCone, ogivePressureDragFactor, scaled as scaledOf, finenessScaledPressureDrag, ellipsoidLowSpeed, ellipsoidAtLeastRest, ellipsoidMeasured, ellipsoid as ellipsoidOf, ellipsoidSubsonicPressureDrag, referenceAt, methodAt};
 ghost use Rattle.nose_drag.specs.Curves.{takesConeFormula, fromTransonic, curveAt, stepCurve, coneCurve, interpolated as interpolatedOf, powerBracket, parabolicBracket, betweenReferences, ogive as ogiveOf, power as powerOf, parabolic as parabolicOf, haack as haackOf, shaped as shapedOf, build as buildOf, newCurve, coefficientOf};
 ghost use Rattle.nose_drag.specs.Depth.{depthOfReference, depthOfTransonic};
 ghost use Rattle.nose_drag.specs.declared.Transonic.the-variants.{Cone};
@@ -40,6 +43,9 @@ pub const ROUND_HEAD_FOREBODY_PRESSURE_DRAG: f64 = -0.05;
 
 // The ratio of specific heats of air in eq. B.5.
 const GAMMA: f64 = 1.4;
+
+// The root that eq. B.4 has at Mach 1.3, √(1.3² - 1), so that none is taken at each call.
+const CONE_SUPERSONIC_ROOT: f64 = 0.8306623862918076;
 
 // ln 4, for eq. B.9's logarithm to base 4.
 const LN_4: f64 = LN_2 * 2.0;
@@ -96,15 +102,21 @@ fn hermite(x0: f64, y0: f64, m0: f64, x1: f64, y1: f64, m1: f64, x: f64) -> Valu
     }
 }
 
-// Eq. B.4, from Mach 1.3.
-fn cone_supersonic(s: f64, m: f64) -> ValueAndSlope
-    ensures { λ r. ⌜ r ≡ coneSupersonic s m ⌝ }
+// Eq. B.4, with the root of M² - 1.
+fn cone_by_root(s: f64, m: f64, root: f64) -> ValueAndSlope
+    ensures { λ r. ⌜ r ≡ coneByRoot s m root ⌝ }
 {
-    let root = elementary::sqrt(m * m - 1.0);
     ValueAndSlope {
         value: 2.1 * s * s + 0.5 * s / root,
         slope: -0.5 * s * m / (root * root * root),
     }
+}
+
+// Eq. B.4, from Mach 1.3.
+fn cone_supersonic(s: f64, m: f64) -> ValueAndSlope
+    ensures { λ r. ⌜ r ≡ coneSupersonic s m ⌝ }
+{
+    cone_by_root(s, m, elementary::sqrt(m * m - 1.0))
 }
 
 // A cone's pressure drag from Mach 1, with s the sine of its half-angle (eq. B.4 to B.6, and the cubic between Mach 1 and 1.3).
@@ -115,7 +127,7 @@ fn cone_transonic(s: f64, mach: f64) -> ValueAndSlope
         return cone_supersonic(s, mach);
     }
     let slope_at_1 = 4.0 / (GAMMA + 1.0) * (1.0 - 0.5 * s);
-    let end = cone_supersonic(s, CONE_SUPERSONIC_MACH);
+    let end = cone_by_root(s, CONE_SUPERSONIC_MACH, CONE_SUPERSONIC_ROOT);
     hermite(
         1.0,
         s,
@@ -127,6 +139,14 @@ fn cone_transonic(s: f64, mach: f64) -> ValueAndSlope
     )
 }
 
+// The sine of a cone's half-angle, tan ε = 1/(2f) (eq. B.3).
+fn sin_half_angle(fineness_ratio: f64) -> f64
+    ensures { λ r. ⌜ r ≡ sinHalfAngle «fineness_ratio» ⌝ }
+{
+    let tan = 0.5 / fineness_ratio;
+    tan / elementary::sqrt(1.0 + tan * tan)
+}
+
 // A cone times an ogive's factor.
 fn cone_method(sin_half_angle: f64, factor: f64, mach: f64) -> ValueAndSlope
     ensures { λ r. ⌜ r ≡ coneMethod «sin_half_angle» factor mach ⌝ }
@@ -135,6 +155,19 @@ fn cone_method(sin_half_angle: f64, factor: f64, mach: f64) -> ValueAndSlope
     ValueAndSlope {
         value: factor * cone.value,
         slope: factor * cone.slope,
+    }
+}
+
+// The value alone, without a slope's division from Mach 1.3 on.
+fn cone_value(sin_half_angle: f64, factor: f64, mach: f64) -> f64
+    ensures { λ r. ⌜ r ≡ coneMethod «sin_half_angle» factor mach .value ⌝ }
+{
+    if mach >= CONE_SUPERSONIC_MACH {
+        let cone = cone_supersonic(sin_half_angle, mach);
+        factor * cone.value
+    } else {
+        let at = cone_method(sin_half_angle, factor, mach);
+        at.value
     }
 }
 
@@ -244,6 +277,13 @@ pub fn ogive_pressure_drag_factor(kappa: f64) -> Coefficient
     Coefficient::Value(0.72 * d * d + 0.82)
 }
 
+// Eq. B.9 with its exponent.
+fn fineness_scaled(c3: f64, c0: f64, exponent: f64) -> f64
+    ensures { λ r. ⌜ r ≡ c0 ⊗ POW (c3 ⊘ c0) exponent ⌝ }
+{
+    c0 * elementary::powf(c3 / c0, exponent)
+}
+
 // Eq. B.9: from the drag c3 measured at fineness 3 and the blunt cylinder's c0 to another fineness ratio.
 pub fn fineness_scaled_pressure_drag(c3: f64, c0: f64, fineness_ratio: f64) -> Coefficient
     ensures { λ r. ⌜ r ≡ finenessScaledPressureDrag c3 c0 «fineness_ratio» ⌝ }
@@ -257,7 +297,7 @@ pub fn fineness_scaled_pressure_drag(c3: f64, c0: f64, fineness_ratio: f64) -> C
     if let Check::Failed(refusal) = check_dimension(Quantity::Fineness, fineness_ratio, true) {
         return Coefficient::Refused(refusal);
     }
-    Coefficient::Value(c0 * elementary::powf(c3 / c0, elementary::ln(fineness_ratio + 1.0) / LN_4))
+    Coefficient::Value(fineness_scaled(c3, c0, elementary::ln(fineness_ratio + 1.0) / LN_4))
 }
 
 // Two references' values interpolated by the weight of the upper one, and scaled by eq. B.9.
@@ -284,6 +324,17 @@ fn scaled(
         value: c,
         slope: c * ((1.0 - exponent) * c0.slope / c0.value + exponent * c3_slope / c3),
     }
+}
+
+// The same where the slope isn't asked.
+fn scaled_value(lo: f64, hi: f64, weight: f64, exponent: f64, mach: f64) -> f64
+    ensures { λ r. ⌜ r ≡ scaledValue lo hi weight exponent mach ⌝ }
+{
+    let c3 = lo + weight * (hi - lo);
+    if c3 <= 0.0 {
+        return 0.0;
+    }
+    fineness_scaled(c3, 0.85 * stagnation_ratio(mach), exponent)
 }
 
 // An ellipsoid below Mach 0.8: Hoerner's line from the hemisphere on, held at 0; blunter, eq. B.9's form between the flat face and the hemisphere.
@@ -464,16 +515,47 @@ impl Reference {
             Reference::Stoney(nose) => nose.value_and_slope(mach),
         }
     }
+
+    // The value alone.
+    fn value(self, mach: f64) -> f64
+        ensures { λ r. ⌜ r ≡ referenceAt self mach .value ⌝ }
+    {
+        match self {
+            Reference::Blunt => 0.85 * stagnation_ratio(mach),
+            Reference::Cone {
+                fineness_ratio,
+                factor,
+                rest,
+            } => whole_cone_value(fineness_ratio, factor, rest, mach),
+            Reference::Stoney(nose) => {
+                let at = nose.value_and_slope(mach);
+                at.value
+            }
+        }
+    }
+}
+
+// The value of a cone's whole curve. From Mach 1 it is the method's, so that only below a curve is made and asked.
+fn whole_cone_value(fineness_ratio: f64, factor: f64, rest: f64, mach: f64) -> f64
+    ensures { λ r. ⌜ r ≡ wholeCone «fineness_ratio» factor rest mach .value ⌝ }
+{
+    if mach < 1.0 {
+        let cone = Transonic::cone(fineness_ratio, factor);
+        let curve = PressureDragCurve::from_transonic(rest, cone, 1.0, DEPTH);
+        let at = curve.value_and_slope(mach, DEPTH);
+        at.value
+    } else {
+        cone_value(sin_half_angle(fineness_ratio), factor, mach)
+    }
 }
 
 impl Transonic {
-    // A cone of a fineness ratio, tan ε = 1/(2f) (eq. B.3).
+    // A cone of a fineness ratio.
     fn cone(fineness_ratio: f64, factor: f64) -> Transonic
         ensures { λ r. ⌜ r ≡ Cone (sinHalfAngle «fineness_ratio») factor ⌝ }
     {
-        let tan = 0.5 / fineness_ratio;
         Transonic::Cone {
-            sin_half_angle: tan / elementary::sqrt(1.0 + tan * tan),
+            sin_half_angle: sin_half_angle(fineness_ratio),
             factor,
         }
     }
@@ -502,6 +584,36 @@ impl Transonic {
                 fineness_ratio,
                 rest,
             } => ellipsoid(fineness_ratio, rest, mach),
+        }
+    }
+
+    // The value alone, which is all that a coefficient takes: each case hands on its numbers, and no method is copied.
+    fn value(self, mach: f64) -> f64
+        ensures { λ r. ⌜ r ≡ methodAt self mach .value ⌝ }
+    {
+        match self {
+            Transonic::Blunt => 0.85 * stagnation_ratio(mach),
+            Transonic::Cone {
+                sin_half_angle,
+                factor,
+            } => cone_value(sin_half_angle, factor, mach),
+            Transonic::Scaled {
+                lower,
+                upper,
+                weight,
+                exponent,
+            } => {
+                let lo = lower.value(mach);
+                let hi = upper.value(mach);
+                scaled_value(lo, hi, weight, exponent, mach)
+            }
+            Transonic::Ellipsoid {
+                fineness_ratio,
+                rest,
+            } => {
+                let at = ellipsoid(fineness_ratio, rest, mach);
+                at.value
+            }
         }
     }
 }
@@ -650,8 +762,13 @@ impl PressureDragCurve {
         if let Check::Failed(refusal) = check_mach_any(mach) {
             return Coefficient::Refused(refusal);
         }
-        let at = self.value_and_slope(mach, DEPTH);
-        Coefficient::Value(at.value)
+        if mach < self.mach_low {
+            let fit = self.fit;
+            let rise = fit.eval(mach, self.mach_low);
+            return Coefficient::Value(self.rest + rise.value);
+        }
+        let transonic = self.transonic;
+        Coefficient::Value(transonic.value(mach))
     }
 }
 

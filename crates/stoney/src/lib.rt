@@ -499,8 +499,18 @@ impl StoneyNose {
     pub fn first_mach(self) -> f64
         ensures { λ r. ⌜ r ≡ firstMach self ⌝ }
     {
-        let range = self.points();
-        mach_at(range.first)
+        // With constant places the compiler reads the number off, and no array is left to copy.
+        match self {
+            StoneyNose::PowerQuarter => mach_at(0),
+            StoneyNose::PowerHalf => mach_at(12),
+            StoneyNose::PowerThreeQuarters => mach_at(29),
+            StoneyNose::ParabolaHalf => mach_at(47),
+            StoneyNose::ParabolaThreeQuarters => mach_at(65),
+            StoneyNose::Parabola => mach_at(83),
+            StoneyNose::Ellipsoid => mach_at(101),
+            StoneyNose::LvHaack => mach_at(113),
+            StoneyNose::VonKarman => mach_at(131),
+        }
     }
 
     // The table's value and slope at `mach`: linear between the points, with the segment to the right at a point; the last value held past the

@@ -1,14 +1,14 @@
--- `cone_supersonic` meets its contract: the same operations on the same root.
+-- `cone_supersonic` meets its contract, by that of `cone_by_root`.
 -- Assumes nothing.
 use borrow.Author.Needs.{needs}
-use Rattle.nose_drag.specs.Forms.{coneSupersonic}
+use Rattle.nose_drag.specs.Values.{cone-by-root}
 use Rattle.nose_drag.proofs.cone_supersonic.Statement.{statement}
 use Rattle.nose_drag.proofs.cone_supersonic.Tie as tie
 
 pub cone-supersonic-spec : {M : Type 1} → statement M
-unfolding coneSupersonic
 cone-supersonic-spec =
     tie.close
     (tie.spec
     (λ c κs. search needs)
-    (λ c. simp (c .sqrt .ensures)))
+    (λ c κs. search needs)
+    (λ c. simp (cone-by-root, c .cone-by-root .ensures, c .before .sqrt .ensures)))

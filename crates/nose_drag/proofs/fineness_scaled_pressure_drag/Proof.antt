@@ -26,4 +26,4 @@ fineness-scaled-pressure-drag-spec =
     (λ c κs. search needs)
     (λ c κs. search needs)
     (λ c. simp
-    (← c .before .before .before .before .before .before .before .before .before .before .check-dimension .ensures, c .before .before .before .before .before .before .before .before .enum-told .given .1, ← c .before .before .before .before .before .before .before .check-dimension2 .ensures, c .before .before .before .before .before .enum-told2 .given .1, ← c .before .before .before .before .check-dimension3 .ensures, c .before .before .enum-told3 .given .1, c .powf .ensures, c .before .ln .ensures)))
+    (← c .before .before .before .before .before .before .before .before .before .before .check-dimension .ensures, c .before .before .before .before .before .before .before .before .enum-told .given .1, ← c .before .before .before .before .before .before .before .check-dimension2 .ensures, c .before .before .before .before .before .enum-told2 .given .1, ← c .before .before .before .before .check-dimension3 .ensures, c .before .before .enum-told3 .given .1, c .fineness-scaled .ensures, c .before .ln .ensures)))
