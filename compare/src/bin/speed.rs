@@ -436,7 +436,8 @@ fn fifteen(random: &mut Random, widens: bool) -> Vec<(SheetWords, PartWords)> {
         .collect()
 }
 
-fn builds(random: &mut Random) -> Times {
+/// Sheets of any parts, and sheets in which every part widens.
+fn builds(random: &mut Random) -> [Times; 2] {
     let (port, original) = black_box((raw::cobalnis_insert as Edit, theirs::insert as Edit));
     let time = |sheets: &[(SheetWords, PartWords)]| {
         measure(sheets.len(), &mut || build_pass(port, sheets), &mut || {
@@ -448,15 +449,24 @@ fn builds(random: &mut Random) -> Times {
         "whole build, 16 parts × 32 columns (insert of the 16th)",
         mixed,
     );
-    row("the same, every part widens", time(&fifteen(random, true)));
-    mixed
+    let widening = time(&fifteen(random, true));
+    row("the same, every part widens", widening);
+    [mixed, widening]
 }
 
-/// Replace in a full sheet, and against a whole build.
-fn replaces(random: &mut Random, build: Times) {
-    let full = sheet(random, PLACES, false);
+/// Replace in a full sheet, and against a whole build of such a sheet. Where every part widens,
+/// each is replaced by a part of its own aft diameter, so that they all go on to.
+fn replaces(random: &mut Random, widens: bool, build: Times) {
+    let full = sheet(random, PLACES, widens);
     let parts: Vec<_> = (0..128)
-        .map(|_| ((random.bits() % 16) as usize, part(random, 0.1, false)))
+        .map(|_| {
+            let place = (random.bits() % 16) as usize;
+            let mut new = part(random, 0.1, widens);
+            if widens {
+                new[3] = full[FIRST_PART + PART_WORDS * place + 3];
+            }
+            (place, new)
+        })
         .collect();
     let (port, original) = black_box((raw::cobalnis_replace as Edit, theirs::replace as Edit));
     let replace = measure(
@@ -464,14 +474,15 @@ fn replaces(random: &mut Random, build: Times) {
         &mut || replace_pass(port, &full, &parts),
         &mut || replace_pass(original, &full, &parts),
     );
-    row("replace in a full sheet", replace);
+    let of = if widens { ", every part widens" } else { "" };
+    row(&format!("replace in a full sheet{of}"), replace);
     let against = |port: f64, original: f64| Times { port, original };
     row(
-        "port's replace / port's whole build",
+        &format!("port's replace / port's whole build{of}"),
         against(replace.port, build.port),
     );
     row(
-        "original's replace / original's whole build",
+        &format!("original's replace / original's whole build{of}"),
         against(replace.original, build.original),
     );
 }
@@ -609,8 +620,9 @@ fn main() {
     println!("|---|---|---|---|");
     formulas(&mut random);
     curves(&mut random);
-    let build = builds(&mut random);
-    replaces(&mut random, build);
+    let [mixed, widening] = builds(&mut random);
+    replaces(&mut random, false, mixed);
+    replaces(&mut random, true, widening);
     set_columns(&mut random);
     removes(&mut random);
     cards(&mut random);
