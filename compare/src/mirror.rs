@@ -200,7 +200,11 @@ pub fn open(words: &mut SheetWords, cells: &mut [f64]) -> (u32, u64) {
     put_back(model::open(&settings_of(words), cells), words)
 }
 
-pub fn insert(
+/// A call of the model that puts a part at a place.
+type Edit = fn(&Sheet, usize, &Part, &mut [f64]) -> (Answer, Sheet);
+
+fn edit(
+    call: Edit,
     words: &mut SheetWords,
     place: usize,
     part: &PartWords,
@@ -210,9 +214,18 @@ pub fn insert(
         return pair(Answer::refused(5));
     }
     match sheet_of(words) {
-        Ok(sheet) => put_back(model::insert(&sheet, place, &part_of(part), cells), words),
+        Ok(sheet) => put_back(call(&sheet, place, &part_of(part), cells), words),
         Err(answer) => pair(answer),
     }
+}
+
+pub fn insert(
+    words: &mut SheetWords,
+    place: usize,
+    part: &PartWords,
+    cells: &mut [f64],
+) -> (u32, u64) {
+    edit(model::insert, words, place, part, cells)
 }
 
 pub fn replace(
@@ -221,13 +234,7 @@ pub fn replace(
     part: &PartWords,
     cells: &mut [f64],
 ) -> (u32, u64) {
-    if part[0] > 5 {
-        return pair(Answer::refused(5));
-    }
-    match sheet_of(words) {
-        Ok(sheet) => put_back(model::replace(&sheet, place, &part_of(part), cells), words),
-        Err(answer) => pair(answer),
-    }
+    edit(model::replace, words, place, part, cells)
 }
 
 pub fn remove(words: &mut SheetWords, place: usize, cells: &mut [f64]) -> (u32, u64) {

@@ -182,8 +182,18 @@ pub fn open(sheet: &mut SheetWords, cells: &mut [f64]) -> (u32, u64) {
     (status, bits)
 }
 
-/// A status, and the bits of the value refused.
-pub fn insert(
+/// A C function that puts a part at a place.
+type Edit = unsafe extern "C" fn(
+    *mut SheetWords,
+    usize,
+    *const PartWords,
+    *mut f64,
+    usize,
+    *mut u64,
+) -> u32;
+
+fn edit(
+    call: Edit,
     sheet: &mut SheetWords,
     place: usize,
     part: &PartWords,
@@ -192,7 +202,7 @@ pub fn insert(
     let mut bits = 0;
     // SAFETY: as for `open`; `part` is borrowed while the others are borrowed mutably, so apart.
     let status = unsafe {
-        raw::cobalnis_insert(
+        call(
             sheet,
             place,
             part,
@@ -205,25 +215,23 @@ pub fn insert(
 }
 
 /// A status, and the bits of the value refused.
+pub fn insert(
+    sheet: &mut SheetWords,
+    place: usize,
+    part: &PartWords,
+    cells: &mut [f64],
+) -> (u32, u64) {
+    edit(raw::cobalnis_insert, sheet, place, part, cells)
+}
+
+/// A status, and the bits of the value refused.
 pub fn replace(
     sheet: &mut SheetWords,
     place: usize,
     part: &PartWords,
     cells: &mut [f64],
 ) -> (u32, u64) {
-    let mut bits = 0;
-    // SAFETY: as for `insert`.
-    let status = unsafe {
-        raw::cobalnis_replace(
-            sheet,
-            place,
-            part,
-            cells.as_mut_ptr(),
-            cells.len(),
-            &mut bits,
-        )
-    };
-    (status, bits)
+    edit(raw::cobalnis_replace, sheet, place, part, cells)
 }
 
 /// A status, and the bits of the value refused.
