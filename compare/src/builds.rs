@@ -64,9 +64,18 @@ macro_rules! build {
                     17 => original::fineness_scaled_pressure_drag(a, b, c),
                     18 => original::ellipsoid_subsonic_pressure_drag(a, b),
                     19 => Ok(original::stagnation_ratio(a)),
+                    20 => Ok(haack_parameter(NoseShape::VON_KARMAN)),
+                    21 => Ok(haack_parameter(NoseShape::LV_HAACK)),
                     _ => return None,
                 };
                 Some(answer.map_err(Answer::from))
+            }
+
+            fn haack_parameter(shape: NoseShape) -> f64 {
+                match shape {
+                    NoseShape::Haack { parameter } => parameter,
+                    other => panic!("{other:?} is no Haack series"),
+                }
             }
 
             /// "0 conical, 1 ogive, 2 elliptical, 3 power, 4 parabolic, 5 Haack"; the parameter is

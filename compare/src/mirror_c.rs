@@ -50,6 +50,18 @@ pub unsafe extern "C" fn curve(
 }
 
 #[inline(never)]
+pub unsafe extern "C" fn open(
+    sheet: *mut SheetWords,
+    cells: *mut f64,
+    lent: usize,
+    bits: *mut u64,
+) -> u32 {
+    let (status, answer) = mirror::open(&mut *sheet, from_raw_parts_mut(cells, lent));
+    *bits = answer;
+    status
+}
+
+#[inline(never)]
 pub unsafe extern "C" fn insert(
     sheet: *mut SheetWords,
     place: usize,

@@ -367,6 +367,17 @@ static inline double cobalnis_stagnation_ratio(double mach)
     return cobalnis_step_of(19, mach, 0);
 }
 
+/* The parameters of the two Haack shapes that have names. */
+static inline double cobalnis_von_karman(void)
+{
+    return cobalnis_step_of(20, 0, 0);
+}
+
+static inline double cobalnis_lv_haack(void)
+{
+    return cobalnis_step_of(21, 0, 0);
+}
+
 /* value: the value refused, or 0. */
 static inline uint32_t cobalnis_check(uint32_t what, double x, bool allow_zero, double *value)
 {

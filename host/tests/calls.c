@@ -37,7 +37,8 @@ static void raw_formulas(void)
     CHECK(cobalnis_formula(12, NAN, 0, 0, 0, 0, &bits) == DOMAIN_OF(COBALNIS_MACH));
     CHECK(bits == SHOWN_NAN);
     bits = 7;
-    CHECK(cobalnis_formula(20, 0, 0, 0, 0, 0, &bits) == COBALNIS_NO_SUCH && bits == 7);
+    CHECK(cobalnis_formula(22, 0, 0, 0, 0, 0, &bits) == COBALNIS_NO_SUCH && bits == 7);
+    CHECK(cobalnis_von_karman() == 0 && cobalnis_lv_haack() == 1.0 / 3);
 
     CHECK(cobalnis_check_dimension(2, -0.0, true, &bits) == 0 && bits == 0);
     CHECK(cobalnis_check_dimension(19, 0, false, &bits) == DOMAIN_OF(COBALNIS_BODY_FINENESS));

@@ -402,7 +402,7 @@ fn longest_print() {
 #[test]
 fn words_that_name_nothing() {
     use cobalnis::words;
-    assert_eq!(words::formula(20, [1.0; 5]), (65535, 0));
+    assert_eq!(words::formula(22, [1.0; 5]), (65535, 0));
     assert_eq!(words::check_dimension(0, 1.0, true), (65535, 0));
     assert_eq!(words::check_dimension(23, 1.0, true), (65535, 0));
     assert_eq!(words::takes_cone_formula(6, 1.0), 65535);

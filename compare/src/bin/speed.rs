@@ -323,6 +323,7 @@ type Edit = unsafe extern "C" fn(
     usize,
     *mut u64,
 ) -> u32;
+type Open = unsafe extern "C" fn(*mut SheetWords, *mut f64, usize, *mut u64) -> u32;
 type Remove = unsafe extern "C" fn(*mut SheetWords, usize, *mut f64, usize, *mut u64) -> u32;
 type SetColumn =
     unsafe extern "C" fn(*mut SheetWords, usize, f64, f64, *mut f64, usize, *mut u64) -> u32;
@@ -352,6 +353,36 @@ fn build_pass(f: Edit, sheets: &[(SheetWords, PartWords)]) -> u64 {
             )
         };
         assert_eq!(status, 0);
+        sum = sum.wrapping_add(sum_of(&cells));
+    }
+    sum
+}
+
+/// Opens each sheet and inserts all of its parts: what a host without replace would do.
+fn rebuild_pass(open: Open, insert: Edit, sheets: &[SheetWords]) -> u64 {
+    let mut cells = [0.0; CELLS];
+    let mut sum = 0u64;
+    for sheet in sheets {
+        let (mut words, mut bits) = (*sheet, 0);
+        // SAFETY: all are our own and apart.
+        let status = unsafe { open(&mut words, cells.as_mut_ptr(), CELLS, &mut bits) };
+        assert_eq!(status, 0);
+        let (parts, rest) = sheet[FIRST_PART..].as_chunks::<PART_WORDS>();
+        assert!(rest.is_empty());
+        for (place, part) in parts.iter().enumerate() {
+            // SAFETY: all are our own and apart.
+            let status = unsafe {
+                insert(
+                    &mut words,
+                    place,
+                    part,
+                    cells.as_mut_ptr(),
+                    CELLS,
+                    &mut bits,
+                )
+            };
+            assert_eq!(status, 0);
+        }
         sum = sum.wrapping_add(sum_of(&cells));
     }
     sum
@@ -436,6 +467,20 @@ fn fifteen(random: &mut Random, widens: bool) -> Vec<(SheetWords, PartWords)> {
         .collect()
 }
 
+/// Opening a sheet and inserting 16 parts, one call after the other.
+fn rebuilds(random: &mut Random) -> Times {
+    let sheets: Vec<_> = (0..32).map(|_| sheet(random, PLACES, false)).collect();
+    let (open, insert) = black_box((raw::cobalnis_open as Open, raw::cobalnis_insert as Edit));
+    let (their_open, their_insert) = black_box((theirs::open as Open, theirs::insert as Edit));
+    let times = measure(
+        sheets.len(),
+        &mut || rebuild_pass(open, insert, &sheets),
+        &mut || rebuild_pass(their_open, their_insert, &sheets),
+    );
+    row("open and insert all 16 parts", times);
+    times
+}
+
 /// Sheets of any parts, and sheets in which every part widens.
 fn builds(random: &mut Random) -> [Times; 2] {
     let (port, original) = black_box((raw::cobalnis_insert as Edit, theirs::insert as Edit));
@@ -456,7 +501,7 @@ fn builds(random: &mut Random) -> [Times; 2] {
 
 /// Replace in a full sheet, and against a whole build of such a sheet. Where every part widens,
 /// each is replaced by a part of its own aft diameter, so that they all go on to.
-fn replaces(random: &mut Random, widens: bool, build: Times) {
+fn replaces(random: &mut Random, widens: bool, build: Times) -> Times {
     let full = sheet(random, PLACES, widens);
     let parts: Vec<_> = (0..128)
         .map(|_| {
@@ -485,6 +530,7 @@ fn replaces(random: &mut Random, widens: bool, build: Times) {
         &format!("original's replace / original's whole build{of}"),
         against(replace.original, build.original),
     );
+    replace
 }
 
 fn set_columns(random: &mut Random) {
@@ -621,8 +667,14 @@ fn main() {
     formulas(&mut random);
     curves(&mut random);
     let [mixed, widening] = builds(&mut random);
-    replaces(&mut random, false, mixed);
+    let replace = replaces(&mut random, false, mixed);
     replaces(&mut random, true, widening);
+    let rebuild = rebuilds(&mut random);
+    let (port, original) = (replace.port, rebuild.port);
+    row(
+        "port's replace / port's open and insert all 16 parts",
+        Times { port, original },
+    );
     set_columns(&mut random);
     removes(&mut random);
     cards(&mut random);

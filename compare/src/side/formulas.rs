@@ -4,7 +4,7 @@ use cobalnis::words;
 
 use super::asked::{self, each_input, Argument};
 use super::tally::Row;
-use crate::builds::{fixed_steps, plain, FORMULAS};
+use crate::builds::{plain, FORMULAS};
 use crate::inputs::{Random, NANS};
 use crate::mirror;
 use crate::original_fixed::StoneyNose;
@@ -92,7 +92,7 @@ pub fn unknown_formulas(random: &mut Random) -> Row {
     let mut row = Row::new("numbers that name no formula");
     for i in 0..1000 {
         let number = if i < 500 {
-            20 + i
+            22 + i
         } else {
             random.bits() as u32 | 32
         };
@@ -245,20 +245,18 @@ fn expected(nose: u32, mach: f64) -> (u32, [u64; 3]) {
     (0, [last, 0.0, points[0].0].map(answer_bits))
 }
 
-/// The constants of `NoseShape`, by the curves that they make.
+/// The constants of `NoseShape`, by their parameters; the wrapper has them as constants too.
 pub fn shape_constants() -> Row {
     let mut row = Row::new("NoseShape::VON_KARMAN, LV_HAACK");
-    let theirs = [
-        crate::original_fixed::NoseShape::VON_KARMAN,
-        crate::original_fixed::NoseShape::LV_HAACK,
-    ];
-    let ours = [cobalnis::Shape::VON_KARMAN, cobalnis::Shape::LV_HAACK];
-    for (ours, theirs) in ours.into_iter().zip(theirs) {
-        let cobalnis::Shape::Haack { parameter } = ours else {
-            unreachable!("both are Haack series")
-        };
-        let same = fixed_steps::shape_of(5, parameter) == theirs;
-        row.note(0, same, || format!("{parameter}"));
+    let wrapped = [cobalnis::Shape::VON_KARMAN, cobalnis::Shape::LV_HAACK];
+    for (number, shape) in (20..).zip(wrapped) {
+        let (port, theirs) = (
+            words::formula(number, [0.0; 5]),
+            mirror::formula(number, [0.0; 5]),
+        );
+        let parameter = f64::from_bits(theirs.1);
+        let same = port == theirs && shape == cobalnis::Shape::Haack { parameter };
+        row.note(theirs.0, same, || number.to_string());
     }
     row
 }

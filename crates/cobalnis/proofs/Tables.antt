@@ -7,8 +7,10 @@ use lib.ListN.{getD}
 use lib.Seq.{getD-drop}
 use Rattle.stoney.specs.declared.StoneyNose.the-variants.{VonKarman}
 use Rattle.stoney.specs.Tables.{noses}
-use lib.Ieee.{Float, toBits, ofBits, binary64}
+use lib.Ieee.{Float, toBits, ofBits, round, div, binary64}
+use Rattle.elementary.specs.Arithmetic.{bits}
 use Rattle.elementary.specs.Constants.{0·0}
+use Rattle.nose_drag.specs.Constants.{one-third}
 use mathlib.Core.Bool.{Bool, true, false, cond}
 use Rattle.aero_error.specs.declared.Quantity.{Quantity}
 use Rattle.aero_error.specs.Refusals.{codeOfQuantity}
@@ -33,6 +35,11 @@ past-last n h =
     only : (m : ℕ) → getD (VonKarman ∷ []) m VonKarman ≡ VonKarman
     only zero = refl
     only (suc m) = refl
+
+-- the constant 1/3 is the rounded quotient
+pub third-computed : bits 0x3fd5_5555_5555_5555 ≡ one-third
+unfolding ofBits round div
+third-computed = refl
 
 -- the bits of +0
 pub zero-bits : toBits binary64 0·0 ≡ 0

@@ -19,6 +19,8 @@ use Rattle.aero_error.specs.Checks.{_and-then_}
 use Rattle.aero_error.specs.Refusals.{numberOf, codeOf, valueOf}
 use Rattle.drag.specs.Friction.{machChecked, criticalReynolds, incompressibleSkinFriction, skinFrictionCoefficient, bodyFrictionFormFactor}
 use Rattle.drag.specs.Pressure.{stagnationRatio, stagnationPressureRatio, stagnationDragCoefficient, baseDragCoefficient, jointPressureDragCoefficient, boattailFactor}
+use Rattle.shapes.specs.declared.NoseShape.{NoseShape}
+use Rattle.shapes.specs.declared.NoseShape.the-variants.{Haack}
 use Rattle.stoney.specs.declared.StoneyNose.{StoneyNose}
 use Rattle.stoney.specs.declared.StoneyNose.the-variants.{VonKarman}
 use Rattle.stoney.specs.Tables.{noses}
@@ -29,6 +31,7 @@ use Rattle.nose_drag.specs.declared.Curve.{Curve}
 use Rattle.nose_drag.specs.declared.Curve.the-variants.{Built, Refused as NotBuilt}
 use Rattle.nose_drag.specs.Below.{subsonicPressureDragCoefficient}
 use Rattle.nose_drag.specs.Methods.{ogivePressureDragFactor, finenessScaledPressureDrag, ellipsoidSubsonicPressureDrag}
+use Rattle.nose_drag.specs.Constants.{one-third}
 use Rattle.nose_drag.specs.Curves.{stepCurve, newCurve, coefficientOf}
 use Rattle.drag_sheet.specs.declared.Outcome.{Outcome}
 use Rattle.drag_sheet.specs.declared.Outcome.the-variants.{Accepted, Refused as Stopped}
@@ -43,7 +46,7 @@ use Rattle.cards.specs.declared.SettingsRead.{SettingsRead}
 use Rattle.cards.specs.Cards.{shapeOf}
 use Rattle.cobalnis.specs.declared.Formula.{Formula}
 use Rattle.cobalnis.specs.declared.Formula.the-variants.{Is, Unknown}
-use Rattle.cobalnis.specs.Words.{spread, partWords, settingsOf, settingsWords, sheetOf, sheetWords, shapesStand}
+use Rattle.cobalnis.specs.Words.{spread, parameterOf, partWords, settingsOf, settingsWords, sheetOf, sheetWords, shapesStand}
 
 -- ---- the status and the bits of an answer
 
@@ -68,7 +71,13 @@ answerBits (Refused e) = toBits binary64 (valueOf e)
 abbrev pub tested : Check → Coefficient
 tested check = check and-then Value 0·0
 
--- ---- formulas, by their numbers from 0
+-- ---- formulas, by their numbers from 0; the last two are the parameters of the Haack shapes that have names
+
+abbrev VON-KARMAN : NoseShape
+VON-KARMAN = Haack 0·0
+
+abbrev LV-HAACK : NoseShape
+LV-HAACK = Haack one-third
 
 abbrev pub formulas : Float → Float → Float → Float → Float → List Formula
 formulas a b c d e =
@@ -92,6 +101,8 @@ formulas a b c d e =
     ∷ Is (finenessScaledPressureDrag a b c)
     ∷ Is (ellipsoidSubsonicPressureDrag a b)
     ∷ Is (Value (stagnationRatio a))
+    ∷ Is (Value (parameterOf VON-KARMAN))
+    ∷ Is (Value (parameterOf LV-HAACK))
     ∷ []
 
 abbrev pub formulaOf : ℕ → Float → Float → Float → Float → Float → Formula

@@ -32,6 +32,7 @@ use drag_sheet::Answer;
 use drag_sheet::Outcome;
 use nose_drag::Curve;
 use nose_drag::PressureDragCurve;
+use shapes::NoseShape;
 use stoney::StoneyNose;
 
 // The status for a number that names no formula, shape, nose or quantity.
@@ -108,6 +109,8 @@ fn formula_of(which: u32, a: f64, b: f64, c: f64, d: f64, e: f64) -> Formula
         17 => Formula::Is(nose_drag::fineness_scaled_pressure_drag(a, b, c)),
         18 => Formula::Is(nose_drag::ellipsoid_subsonic_pressure_drag(a, b)),
         19 => Formula::Is(Coefficient::Value(drag::stagnation_ratio(a))),
+        20 => Formula::Is(Coefficient::Value(words::parameter_of(NoseShape::VON_KARMAN))),
+        21 => Formula::Is(Coefficient::Value(words::parameter_of(NoseShape::LV_HAACK))),
         _ => Formula::Unknown,
     }
 }

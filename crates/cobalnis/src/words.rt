@@ -18,7 +18,7 @@ const FIRST_PART: usize = 69;
 const PART_WORDS: usize = 6;
 
 // The shape's parameter, +0 for a shape that has none.
-fn parameter_of(shape: NoseShape) -> f64
+pub fn parameter_of(shape: NoseShape) -> f64
     ensures { λ r. ⌜ r ≡ parameterOf shape ⌝ }
 {
     match shape {
