@@ -1,5 +1,5 @@
 /* The drag of a model rocket's noses, skin and base, and the sheet that adds
- * them: the C interface of `rt staticlib cobalnis`, for C11.
+ * them: the C interface of `rt staticlib cobalnis`, for C11 and C++.
  *
  * First come the functions of the library, on numbers and words; after them
  * structs that lie in memory as those words do, and typed functions over
@@ -17,10 +17,15 @@
 #ifndef COBALNIS_H
 #define COBALNIS_H
 
+#include <assert.h>
 #include <stdbool.h>
 #include <stddef.h>
 #include <stdint.h>
 #include <string.h>
+
+#ifdef __cplusplus
+extern "C" {
+#endif
 
 #define COBALNIS_NO_SUCH 65535u
 
@@ -181,15 +186,15 @@ typedef struct {
     double transonic_lower_bound;
 } cobalnis_pressure_drag_curve;
 
-_Static_assert(sizeof(double) == 8 && sizeof(uint64_t) == 8, "a word has 8 bytes");
-_Static_assert(sizeof(cobalnis_part) == 8 * COBALNIS_PART_WORDS, "a part is 6 words");
-_Static_assert(offsetof(cobalnis_part, wetted_ratio) == 8 * 5, "the last word of a part");
-_Static_assert(sizeof(cobalnis_sheet) == 8 * COBALNIS_SHEET_WORDS, "a sheet is 165 words");
-_Static_assert(offsetof(cobalnis_sheet, columns) == 8 * 3, "the number of columns");
-_Static_assert(offsetof(cobalnis_sheet, mach) == 8 * 4, "Machs");
-_Static_assert(offsetof(cobalnis_sheet, reynolds) == 8 * 36, "Reynolds numbers");
-_Static_assert(offsetof(cobalnis_sheet, parts) == 8 * 68, "the number of parts");
-_Static_assert(offsetof(cobalnis_sheet, part) == 8 * 69, "the parts");
+static_assert(sizeof(double) == 8 && sizeof(uint64_t) == 8, "a word has 8 bytes");
+static_assert(sizeof(cobalnis_part) == 8 * COBALNIS_PART_WORDS, "a part is 6 words");
+static_assert(offsetof(cobalnis_part, wetted_ratio) == 8 * 5, "the last word of a part");
+static_assert(sizeof(cobalnis_sheet) == 8 * COBALNIS_SHEET_WORDS, "a sheet is 165 words");
+static_assert(offsetof(cobalnis_sheet, columns) == 8 * 3, "the number of columns");
+static_assert(offsetof(cobalnis_sheet, mach) == 8 * 4, "Machs");
+static_assert(offsetof(cobalnis_sheet, reynolds) == 8 * 36, "Reynolds numbers");
+static_assert(offsetof(cobalnis_sheet, parts) == 8 * 68, "the number of parts");
+static_assert(offsetof(cobalnis_sheet, part) == 8 * 69, "the parts");
 
 /* ---- statuses and bits */
 
@@ -546,5 +551,9 @@ static inline uint32_t cobalnis_part_read(const uint8_t *bytes, size_t n, size_t
 {
     return cobalnis_read_part(bytes, n, at, cobalnis_words_of(part), next);
 }
+
+#ifdef __cplusplus
+}
+#endif
 
 #endif
