@@ -4,6 +4,16 @@
 //! - `fixed_steps`: the original with document 01's fixed steps, which the port must equal.
 //! - `plain`: the original as it stands, with the machine's own ln, exp, powf and sin.
 
+/// The shapes of a card, by their numbers.
+pub const SHAPES: [&str; 6] = [
+    "conical",
+    "ogive",
+    "elliptical",
+    "power",
+    "parabolic",
+    "Haack",
+];
+
 /// The formulas' names, in the order of their numbers.
 pub const FORMULAS: [&str; 20] = [
     "sqrt",

@@ -123,3 +123,16 @@ pub fn specials() -> Vec<f64> {
     }
     list
 }
+
+/// Machs where a formula changes, or overflows inside.
+pub const MACHS: [f64; 9] = [
+    0.1,
+    0.8,
+    1.0,
+    1.3,
+    5.0,
+    25.0,
+    1e77,
+    1.3407807929942596e154,
+    1e200,
+];

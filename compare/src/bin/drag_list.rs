@@ -23,7 +23,7 @@
 //! - `k` check_dimension("fineness ratio", value, true), so code 02
 //! - `l` check_dimension("body fineness ratio", value, false), so code 19
 
-use compare::inputs::{around, down, specials, up, Random, MAX, NANS, TINY};
+use compare::inputs::{around, down, specials, up, Random, MACHS, MAX, NANS, TINY};
 use compare::list::List;
 use compare::original_fixed::*;
 use compare::refusals::Answer;
@@ -97,19 +97,6 @@ fn plausible_mach(random: &mut Random) -> f64 {
         _ => random.between(1.0, 25.0),
     }
 }
-
-/// Machs where a formula changes, or overflows inside.
-const MACHS: [f64; 9] = [
-    0.1,
-    0.8,
-    1.0,
-    1.3,
-    5.0,
-    25.0,
-    1e77,
-    1.3407807929942596e154,
-    1e200,
-];
 
 fn plausible_roughness(random: &mut Random) -> f64 {
     match random.bits() % 3 {

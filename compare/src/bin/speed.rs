@@ -14,7 +14,7 @@ use cobalnis::raw;
 use cobalnis::words::{
     PartWords, SheetWords, FIRST_PART, MACHS, PARTS, PART_WORDS, REYNOLDS, SHEET_WORDS,
 };
-use compare::builds::{FORMULAS, STEP};
+use compare::builds::{FORMULAS, SHAPES, STEP};
 use compare::inputs::Random;
 use compare::mirror_c as theirs;
 use compare::model::{COLUMNS, PLACES, ROWS};
@@ -163,15 +163,6 @@ fn formulas(random: &mut Random) {
 }
 
 // ---- curves
-
-const SHAPES: [&str; 6] = [
-    "conical",
-    "ogive",
-    "elliptical",
-    "power",
-    "parabolic",
-    "Haack",
-];
 
 fn parameter(shape: u64, r: &mut Random) -> f64 {
     match shape {
@@ -340,22 +331,25 @@ fn build_pass(f: Edit, sheets: &[(SheetWords, PartWords)]) -> u64 {
     let mut cells = [0.0; CELLS];
     let mut sum = 0u64;
     for (sheet, part) in sheets {
-        let (mut words, mut bits) = (*sheet, 0);
-        // SAFETY: all are our own and apart.
-        let status = unsafe {
-            f(
-                &mut words,
-                PLACES - 1,
-                part,
-                cells.as_mut_ptr(),
-                CELLS,
-                &mut bits,
-            )
-        };
-        assert_eq!(status, 0);
+        let mut words = *sheet;
+        accepted(f, &mut words, PLACES - 1, part, &mut cells);
         sum = sum.wrapping_add(sum_of(&cells));
     }
     sum
+}
+
+/// One call that puts a part at a place, and is accepted.
+fn accepted(
+    f: Edit,
+    words: &mut SheetWords,
+    place: usize,
+    part: &PartWords,
+    cells: &mut [f64; CELLS],
+) {
+    let mut bits = 0;
+    // SAFETY: all are borrowed apart, and the cells are as many as is said.
+    let status = unsafe { f(words, place, part, cells.as_mut_ptr(), CELLS, &mut bits) };
+    assert_eq!(status, 0);
 }
 
 /// Opens each sheet and inserts all of its parts: what a host without replace would do.
@@ -370,18 +364,7 @@ fn rebuild_pass(open: Open, insert: Edit, sheets: &[SheetWords]) -> u64 {
         let (parts, rest) = sheet[FIRST_PART..].as_chunks::<PART_WORDS>();
         assert!(rest.is_empty());
         for (place, part) in parts.iter().enumerate() {
-            // SAFETY: all are our own and apart.
-            let status = unsafe {
-                insert(
-                    &mut words,
-                    place,
-                    part,
-                    cells.as_mut_ptr(),
-                    CELLS,
-                    &mut bits,
-                )
-            };
-            assert_eq!(status, 0);
+            accepted(insert, &mut words, place, part, &mut cells);
         }
         sum = sum.wrapping_add(sum_of(&cells));
     }
@@ -391,20 +374,9 @@ fn rebuild_pass(open: Open, insert: Edit, sheets: &[SheetWords]) -> u64 {
 /// Replaces part after part in one full sheet.
 fn replace_pass(f: Edit, sheet: &SheetWords, parts: &[(usize, PartWords)]) -> u64 {
     let mut cells = [0.0; CELLS];
-    let (mut words, mut bits, mut sum) = (*sheet, 0, 0u64);
+    let (mut words, mut sum) = (*sheet, 0u64);
     for (place, part) in parts {
-        // SAFETY: all are our own and apart.
-        let status = unsafe {
-            f(
-                &mut words,
-                *place,
-                part,
-                cells.as_mut_ptr(),
-                CELLS,
-                &mut bits,
-            )
-        };
-        assert_eq!(status, 0);
+        accepted(f, &mut words, *place, part, &mut cells);
         sum = sum.wrapping_add(sum_of(&cells));
     }
     sum

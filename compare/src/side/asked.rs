@@ -2,7 +2,7 @@
 //! neighbours, the tables' numbers with theirs, odd floats, and plausible ones.
 
 use crate::fixed::{self, LN_2};
-use crate::inputs::{around, specials, Random};
+use crate::inputs::{around, specials, Random, MACHS};
 use crate::original_fixed::{critical_reynolds, StoneyNose};
 
 pub const HALF_PI: f64 = std::f64::consts::FRAC_PI_2;
@@ -88,22 +88,9 @@ fn table(of: fn(&(f64, f64)) -> f64) -> Vec<f64> {
 
 pub fn mach() -> Argument {
     let mut edges = table(|point| point.0);
-    // Where the square overflows, and where it underflows.
-    edges.extend([
-        0.1,
-        0.3,
-        0.5,
-        0.8,
-        1.0,
-        1.3,
-        5.0,
-        25.0,
-        1e77,
-        1.3407807929942596e154,
-        1e200,
-        1e-162,
-        1e-150,
-    ]);
+    edges.extend(MACHS);
+    // Where the square underflows, and two more.
+    edges.extend([1e-162, 1e-150, 0.3, 0.5]);
     Argument::new(&edges, |r| match r.bits() % 4 {
         0 => r.between(0.0, 0.8),
         1 => r.between(0.8, 1.3),

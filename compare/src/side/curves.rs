@@ -5,18 +5,9 @@ use cobalnis::words;
 use super::asked::{self, each_input, Argument};
 use super::formulas::written;
 use super::tally::Row;
-use crate::builds::{fixed_steps, plain, STEP};
+use crate::builds::{fixed_steps, plain, SHAPES, STEP};
 use crate::inputs::Random;
 use crate::mirror;
-
-const SHAPES: [&str; 6] = [
-    "conical",
-    "ogive",
-    "elliptical",
-    "power",
-    "parabolic",
-    "Haack",
-];
 
 pub fn curves(count: u64, random: &mut Random) -> Vec<Row> {
     let mut rows = Vec::new();

@@ -1,9 +1,9 @@
 -- How far a card's fields reach: a field that is read ends at or after its start, and at most as many bytes on as it can have. So a part card takes 1 to 42 bytes,
 -- and a settings card at most 538. Assumes nothing.
-use mathlib.Core.Path.{_≡_, refl, sym, ap, _∙_}
+use mathlib.Core.Path.{_≡_, refl}
 use mathlib.Core.Bool.{Bool, true, false, cond, not}
-use mathlib.Core.List.{List, [], _∷_}
-use Prim.Native.Nat.{ℕ, zero, suc, _+_, _-_, _*_, _≤_, _<_}
+use mathlib.Core.List.{List}
+use Prim.Native.Nat.{ℕ, _+_, _*_, _≤_}
 use native.Mathlib.Omega.{arith}
 use lib.ListN.{length, getD}
 use lib.Dec.{ltb}
@@ -21,11 +21,11 @@ use Rattle.cards.specs.declared.PairRead.{PairRead}
 use Rattle.cards.specs.declared.PairRead.the-variants.{Pair, Refused as NoPair}
 use Rattle.cards.specs.declared.ShapeRead.{ShapeRead}
 use Rattle.cards.specs.declared.ShapeRead.the-variants.{Shape, Refused as NoShape}
-use Rattle.cards.specs.declared.PartRead.{PartRead}
 use Rattle.cards.specs.declared.PartRead.the-variants.{Read, Refused as NoPart}
 use Rattle.cards.specs.declared.SettingsRead.{SettingsRead}
 use Rattle.cards.specs.Fields.{bit, has, byteAt, numberAt, pairAt, numbersAt, eightBytes, onByte, onNumber, onPair}
-use Rattle.cards.specs.Cards.{parameterRight, parameterAt, shapeAt, shapeOf, restAt, onShape, partFields, partAt, noSettings, slots, columnsAt, finenessAt, settingsFields, settingsAt}
+use Rattle.shapes.specs.Numbers.{shapeOf}
+use Rattle.cards.specs.Cards.{parameterRight, parameterAt, shapeAt, restAt, onShape, partFields, partAt, noSettings, slots, columnsAt, finenessAt, settingsFields, settingsAt}
 
 -- from `at` on, at most k bytes
 abbrev pub Reach : ℕ → ℕ → ℕ → Type 0

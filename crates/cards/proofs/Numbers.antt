@@ -25,14 +25,17 @@ numbers-more (suc n) s at =
     let e : at + 16 + 16 * n ≡ at + 16 * suc n = omega arith in
     ap (λ (xs : List Float). bits (eightBytes s at) ∷ xs) (numbers-more n s (at + 16) ∙ ap (λ (k : ℕ). numbersAt n s (at + 16) ++ (bits (eightBytes s k) ∷ [])) e)
 
+-- the next of so many slots is filled
+pub slot-next : {A : Type 0} (p : List A) (x z : A) (total n : ℕ) → length p ≡ n → n < total
+    → set (p ++ replicate (total - n) z) n x ≡ p ++ (x ∷ []) ++ replicate (total - (n + 1)) z
+slot-next p x z total n l h =
+    let e : total - n ≡ suc (total - (n + 1)) = omega arith in
+    let rest = replicate (total - (n + 1)) z in
+    ap (λ (k : ℕ). set (p ++ replicate k z) n x) e ∙ set-at p z rest x n l ∙ sym (append-assoc p (x ∷ []) rest)
+
 -- the next number goes into its slot
 pub slot-filled : (n : ℕ) (s : List ℕ) (at : ℕ) → n < 32
     → set (slots n (numbersAt n s at)) n (bits (eightBytes s (at + 16 * n))) ≡ slots (n + 1) (numbersAt (n + 1) s at)
 slot-filled n s at h =
-    let x = bits (eightBytes s (at + 16 * n)) in
-    let e : 32 - n ≡ suc (32 - (n + 1)) = omega arith in
-    let rest = replicate (32 - (n + 1)) 0·0 in
-    ap (λ (k : ℕ). set (numbersAt n s at ++ replicate k 0·0) n x) e
-    ∙ set-at (numbersAt n s at) 0·0 rest x n (numbers-long n s at)
-    ∙ sym (append-assoc (numbersAt n s at) (x ∷ []) rest)
-    ∙ ap (λ (xs : List Float). xs ++ rest) (sym (ap (λ (k : ℕ). numbersAt k s at) (add-one n) ∙ numbers-more n s at))
+    slot-next (numbersAt n s at) (bits (eightBytes s (at + 16 * n))) 0·0 32 n (numbers-long n s at) h
+    ∙ ap (λ (xs : List Float). xs ++ replicate (32 - (n + 1)) 0·0) (sym (ap (λ (k : ℕ). numbersAt k s at) (add-one n) ∙ numbers-more n s at))

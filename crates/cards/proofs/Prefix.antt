@@ -2,16 +2,15 @@
 -- The field readers see the same bytes in the prefix as in the stream, card by card; the count of the design's parts bounds the cards. Assumes nothing.
 use mathlib.Core.Path.{_≡_, refl, sym, ap, _∙_}
 use mathlib.Core.Bool.{Bool, true, false, cond, not}
-use mathlib.Core.List.{List, [], _∷_}
+use mathlib.Core.List.{List, []}
 use Prim.Native.Nat.{ℕ, zero, suc, _+_, _-_, _*_, _≤_, _<_, min}
 use native.Mathlib.Omega.{arith}
 use lib.ListN.{length, getD, take, length-take}
-use lib.Seq.{getD-take, take-all, length-take-le}
+use lib.Seq.{getD-take}
 use lib.Dec.{leb, ltb}
 use lib.Ieee.{Float}
 use borrow.Author.Tests.{leb-true, leb-false, le-leb, lt-leb, ltb-true, ltb-false, lt-ltb, le-ltb}
 use Rattle.aero_error.specs.declared.AeroError.{AeroError}
-use Rattle.elementary.specs.Arithmetic.{bits}
 use Rattle.cards.specs.declared.ByteRead.{ByteRead}
 use Rattle.cards.specs.declared.ByteRead.the-variants.{Byte, Refused as NoByte}
 use Rattle.cards.specs.declared.NumberRead.{NumberRead}
@@ -24,20 +23,18 @@ use Rattle.drag_sheet.specs.declared.Outcome.the-variants.{Accepted, Refused}
 use Rattle.cards.specs.declared.ShapeRead.{ShapeRead}
 use Rattle.cards.specs.declared.ShapeRead.the-variants.{Shape, Refused as NoShape}
 use Rattle.cards.specs.declared.PartRead.{PartRead}
-use Rattle.cards.specs.declared.PartRead.the-variants.{Read, Refused as NoPart}
+use Rattle.cards.specs.declared.PartRead.the-variants.{Refused as NoPart}
 use Rattle.cards.specs.declared.SettingsRead.{SettingsRead}
 use Rattle.cards.specs.Cards.{parameterAt, shapeAt, restAt, onShape, partFields, partAt, noSettings, slots, columnsAt, finenessAt, settingsFields, settingsAt}
-use Rattle.aero_error.specs.declared.Check.the-variants.{Passed}
-use Rattle.drag_sheet.specs.declared.Part.{Part}
 use Rattle.drag_sheet.specs.declared.Sheet.{Sheet}
 use Rattle.drag_sheet.specs.Layout.{written}
 use Rattle.drag_sheet.specs.Build.{build}
 use Rattle.drag_sheet.specs.Tests.{settingsTest}
-use Rattle.drag_sheet.specs.Calls.{sheetDecision, opened, emptySlots, madeCells}
-use Rattle.cards.specs.Run.{Ran, insertLast, partCards, onOutcome, onCheck, stoppedAt, streamFrom, streamOf}
+use Rattle.drag_sheet.specs.Calls.{opened, emptySlots, madeCells}
+use Rattle.cards.specs.Run.{Ran, partCards, onOutcome, onCheck, stoppedAt, streamFrom, streamOf}
 use Rattle.cards.proofs.Stream.{sheetWith, cellsWith, same-card, card-first, accepted-part}
 use Rattle.cards.specs.Fields.{bit, has, fourBytes, eightBytes, byteAt, numberAt, pairAt, numbersAt, onByte, onNumber, onPair}
-use Rattle.cards.proofs.Moves.{Reach, byte-reach, byte-stands, number-reach, pair-reach, shape-reach, part-reach, settings-reach}
+use Rattle.cards.proofs.Moves.{byte-reach, byte-stands, number-reach, pair-reach, shape-reach, part-reach, settings-reach}
 
 -- ---- what was read goes on alike
 

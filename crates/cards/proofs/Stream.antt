@@ -8,7 +8,7 @@ use native.Mathlib.Omega.{arith}
 use lib.ListN.{length}
 use lib.Dec.{ltb}
 use lib.Ieee.{Float}
-use borrow.Author.Tests.{le-ltb, ltb-true, lt-ltb, ltb-false}
+use borrow.Author.Tests.{le-ltb, ltb-true, lt-ltb}
 use Rattle.aero_error.specs.declared.AeroError.{AeroError}
 use Rattle.aero_error.specs.declared.Check.{Check}
 use Rattle.aero_error.specs.declared.Check.the-variants.{Passed, Failed}
@@ -20,9 +20,10 @@ use Rattle.drag_sheet.specs.Layout.{written}
 use Rattle.drag_sheet.specs.Build.{build, partsOf}
 use Rattle.drag_sheet.specs.declared.Sheet.{Sheet}
 use Rattle.drag_sheet.specs.declared.Answer.{Answer}
-use Rattle.drag_sheet.specs.Calls.{Call, insert, sheetDecision, sheetAfter, cellsAfter, answered, chosen, Called, Opened, opened, emptySlots, madeCells, decision, argumentsTest, rowsTest}
+use Rattle.drag_sheet.specs.Calls.{Call, sheetDecision, sheetAfter, cellsAfter, answered, chosen, Called, Opened, opened, emptySlots, madeCells, decision, argumentsTest, rowsTest}
 use Rattle.drag_sheet.specs.Tests.{_then_, sheetTest, settingsTest}
 use Rattle.drag_sheet.proofs.Answers.{then-passed, insert-facts, settings-facts}
+use Rattle.drag_sheet.proofs.Edits.{Verdict, accepted, refusal, verdict}
 use Rattle.cards.specs.declared.SettingsRead.{SettingsRead}
 use Rattle.cards.specs.declared.PartRead.{PartRead}
 use Rattle.cards.specs.declared.PartRead.the-variants.{Read, Refused as NoPart}
@@ -140,23 +141,21 @@ accepted-part sheet lent part e =
 
 module _ (call : Call) (sheet : Sheet) (xs : List Float) (r : Answer) (ys : List Float) (c : Called call sheet xs r ys) where
   pub refused-call : (e : AeroError) → r .outcome ≡ Refused e → (sheetDecision call sheet (length xs) ≡ Failed e) × (r .sheet ≡ sheet) × (ys ≡ xs)
-  refused-call e o = by-cases (sheetDecision call sheet (length xs)) refl (c .answer) (c .left)
+  refused-call e o = by (verdict call sheet xs r ys c)
     where
-      by-cases : (d : Check) → sheetDecision call sheet (length xs) ≡ d → r ≡ answered d sheet (sheetAfter call sheet) → ys ≡ chosen d xs (cellsAfter call (sheet .settings) (partsOf (sheet .design)) xs)
-          → (sheetDecision call sheet (length xs) ≡ Failed e) × (r .sheet ≡ sheet) × (ys ≡ xs)
-      by-cases Passed d a l = let z : Accepted ≡ Refused e = sym (ap (λ (x : Answer). x .outcome) a) ∙ o in let y : _≡_ {A = ℕ} 0 1 = cc in absurd (omega arith)
-      by-cases (Failed f) d a l =
+      by : Verdict call sheet xs r ys → (sheetDecision call sheet (length xs) ≡ Failed e) × (r .sheet ≡ sheet) × (ys ≡ xs)
+      by (accepted p a l) = let z : Accepted ≡ Refused e = sym (ap (λ (x : Answer). x .outcome) a) ∙ o in let y : _≡_ {A = ℕ} 0 1 = cc in absurd (omega arith)
+      by (refusal f p a l) =
           let z : Refused f ≡ Refused e = sym (ap (λ (x : Answer). x .outcome) a) ∙ o in
           let g : Failed f ≡ Failed e = cc in
-          (d ∙ g, ap (λ (x : Answer). x .sheet) a, l)
+          (p ∙ g, ap (λ (x : Answer). x .sheet) a, l)
 
   pub accepted-call : r .outcome ≡ Accepted → (sheetDecision call sheet (length xs) ≡ Passed) × (r .sheet ≡ sheetAfter call sheet) × (ys ≡ cellsAfter call (sheet .settings) (partsOf (sheet .design)) xs)
-  accepted-call o = by-cases (sheetDecision call sheet (length xs)) refl (c .answer) (c .left)
+  accepted-call o = by (verdict call sheet xs r ys c)
     where
-      by-cases : (d : Check) → sheetDecision call sheet (length xs) ≡ d → r ≡ answered d sheet (sheetAfter call sheet) → ys ≡ chosen d xs (cellsAfter call (sheet .settings) (partsOf (sheet .design)) xs)
-          → (sheetDecision call sheet (length xs) ≡ Passed) × (r .sheet ≡ sheetAfter call sheet) × (ys ≡ cellsAfter call (sheet .settings) (partsOf (sheet .design)) xs)
-      by-cases Passed d a l = (d, ap (λ (x : Answer). x .sheet) a, l)
-      by-cases (Failed f) d a l = let z : Refused f ≡ Accepted = sym (ap (λ (x : Answer). x .outcome) a) ∙ o in let y : _≡_ {A = ℕ} 0 1 = cc in absurd (omega arith)
+      by : Verdict call sheet xs r ys → (sheetDecision call sheet (length xs) ≡ Passed) × (r .sheet ≡ sheetAfter call sheet) × (ys ≡ cellsAfter call (sheet .settings) (partsOf (sheet .design)) xs)
+      by (accepted p a l) = (p, ap (λ (x : Answer). x .sheet) a, l)
+      by (refusal f p a l) = let z : Refused f ≡ Accepted = sym (ap (λ (x : Answer). x .outcome) a) ∙ o in let y : _≡_ {A = ℕ} 0 1 = cc in absurd (omega arith)
 
 -- ---- a run's contract, once it is known where the run stops
 

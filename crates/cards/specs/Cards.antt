@@ -1,19 +1,16 @@
 -- The two cards (document 01, "Cards"), read from a list of bytes at a position, in document 01's order: "Card bytes: left to right, bits first, settings'
 -- missing bits next, the parameter bit once the shape is read, 7 at the count byte". A card answers its content and the position after it, or its refusal.
 use mathlib.Core.Bool.{Bool, true, false, cond, not}
-use mathlib.Core.List.{List, [], _∷_, _++_}
+use mathlib.Core.List.{List, _++_}
 use Prim.Native.Nat.{ℕ, _+_, _-_, _*_}
-use lib.ListN.{length, getD, replicate}
-use lib.Dec.{leb, ltb, eqb}
+use lib.ListN.{length, replicate}
+use lib.Dec.{ltb, eqb}
 use lib.Ieee.{Float}
 use Rattle.elementary.specs.Constants.{0·0}
 use Rattle.aero_error.specs.declared.AeroError.{AeroError}
 use Rattle.aero_error.specs.declared.AeroError.the-variants.{CardEnds, ReservedBit, FieldMissing, TooManyColumns}
 use Rattle.shapes.specs.declared.NoseShape.{NoseShape}
-use Rattle.shapes.specs.declared.NoseShape.the-variants.{Conical, Ogive, Elliptical, PowerSeries, ParabolicSeries, Haack}
-use Rattle.drag_sheet.specs.declared.Settings.{Settings}
-use Rattle.drag_sheet.specs.declared.Part.{Part}
-use Rattle.drag_sheet.specs.declared.Outcome.{Outcome}
+use Rattle.shapes.specs.Numbers.{shapeOf}
 use Rattle.drag_sheet.specs.declared.Outcome.the-variants.{Accepted, Refused}
 use Rattle.drag_sheet.specs.Layout.{most-columns}
 use Rattle.cards.specs.declared.ShapeRead.{ShapeRead}
@@ -24,16 +21,6 @@ use Rattle.cards.specs.declared.SettingsRead.{SettingsRead}
 use Rattle.cards.specs.Fields.{bit, has, byteAt, numberAt, pairAt, numbersAt, onByte, onNumber, onPair}
 
 -- ---- part cards: bit 0 shape byte, 1 shape parameter, 2 L, 3 d, 4 joint angle, 5 w
-
--- "0 conical, 1 ogive, 2 elliptical, 3 power, 4 parabolic, 5 Haack"
-abbrev pub shapeOf : ℕ → Float → NoseShape
-shapeOf n x =
-    cond (eqb n 0) Conical
-    (cond (eqb n 1) (Ogive x)
-    (cond (eqb n 2) Elliptical
-    (cond (eqb n 3) (PowerSeries x)
-    (cond (eqb n 4) (ParabolicSeries x)
-    (Haack x)))))
 
 -- "the parameter stands for shapes 1, 3, 4, 5 and no others"
 abbrev pub takesParameter : ℕ → Bool

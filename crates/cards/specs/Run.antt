@@ -1,7 +1,7 @@
 -- What a whole stream of bytes comes to (document 01, "Cards"): "reads one settings card and then part cards .., each inserted last, and stops at the first
 -- refusal". Each card is read whole before its call. What a call decides and leaves is `drag_sheet`'s own definition of it.
 use mathlib.Core.Path.{_≡_}
-use mathlib.Core.Bool.{Bool, cond}
+use mathlib.Core.Bool.{cond}
 use mathlib.Core.List.{List, []}
 use Prim.Native.Nat.{ℕ, zero, suc, _+_, _*_, _≤_}
 use lib.ListN.{length}
@@ -10,7 +10,6 @@ use lib.Ieee.{Float}
 use Rattle.aero_error.specs.declared.AeroError.{AeroError}
 use Rattle.aero_error.specs.declared.Check.{Check}
 use Rattle.aero_error.specs.declared.Check.the-variants.{Passed, Failed}
-use Rattle.drag_sheet.specs.declared.Settings.{Settings}
 use Rattle.drag_sheet.specs.declared.Part.{Part}
 use Rattle.drag_sheet.specs.declared.Outcome.{Outcome}
 use Rattle.drag_sheet.specs.declared.Outcome.the-variants.{Accepted, Refused}

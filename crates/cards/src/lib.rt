@@ -6,7 +6,7 @@ ghost use Prim.Native.Nat.{_+_, _-_, _*_, _≤_, _<_};
 ghost use lib.ListN.{length};
 ghost use Rattle.elementary.specs.Arithmetic.{bits};
 ghost use Rattle.cards.specs.Fields.{has, fourBytes, eightBytes, byteAt, numberAt, pairAt, numbersAt};
-ghost use Rattle.cards.specs.Cards.{shapeOf, takesParameter, parameterRight, parameterAt, shapeAt, restAt, partFields, partAt, noSettings, slots, columnsAt, finenessAt, settingsFields, settingsAt};
+ghost use Rattle.cards.specs.Cards.{takesParameter, parameterRight, parameterAt, shapeAt, restAt, partFields, partAt, noSettings, slots, columnsAt, finenessAt, settingsFields, settingsAt};
 ghost use Rattle.drag_sheet.specs.declared.Outcome.the-variants.{Accepted};
 ghost use Rattle.drag_sheet.specs.Calls.{opened, emptySlots};
 ghost use Rattle.cards.specs.Run.{runStopped, Stopped, Sized, allPartCards, streamOf};
@@ -177,27 +177,6 @@ fn read_numbers(n: usize, s: &[u8], at: usize) -> [f64; 32]
 
 // ---- part cards
 
-fn shape_of(number: u8, x: f64) -> NoseShape
-    ensures { λ r. ⌜ r ≡ shapeOf number x ⌝ }
-{
-    if number == 0 {
-        return NoseShape::Conical;
-    }
-    if number == 1 {
-        return NoseShape::Ogive { radius_ratio: x };
-    }
-    if number == 2 {
-        return NoseShape::Elliptical;
-    }
-    if number == 3 {
-        return NoseShape::PowerSeries { exponent: x };
-    }
-    if number == 4 {
-        return NoseShape::ParabolicSeries { parameter: x };
-    }
-    NoseShape::Haack { parameter: x }
-}
-
 fn takes_parameter(number: u8) -> bool
     ensures { λ r. ⌜ r ≡ takesParameter number ⌝ }
 {
@@ -229,7 +208,7 @@ fn read_parameter(stands: bool, number: u8, s: &[u8], at: usize) -> ShapeRead
         match read_number(stands, s, at) {
             NumberRead::Refused(e) => ShapeRead::Refused(e),
             NumberRead::Number { value, next } => ShapeRead::Shape {
-                shape: shape_of(number, value),
+                shape: NoseShape::of_number(wide(number), value),
                 next,
             },
         }

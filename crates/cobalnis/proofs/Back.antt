@@ -12,12 +12,11 @@ use lib.Ieee.{Float, binary64, fits, toBits}
 use lib.Ieee.Bits.{ofBits-toBits}
 use Rattle.shapes.specs.declared.NoseShape.{NoseShape}
 use Rattle.shapes.specs.declared.NoseShape.the-variants.{Conical, Ogive, Elliptical, PowerSeries, ParabolicSeries, Haack}
-use Rattle.shapes.specs.Numbers.{numberOfShape}
+use Rattle.shapes.specs.Numbers.{numberOfShape, shapeOf, parameterOf}
 use Rattle.elementary.specs.Arithmetic.{bits}
 use Rattle.drag_sheet.specs.declared.Part.{Part}
 use Rattle.drag_sheet.specs.declared.Sheet.{Sheet}
-use Rattle.cards.specs.Cards.{shapeOf}
-use Rattle.cobalnis.specs.Words.{every, spread, float, floatWords, parameterOf, partOf, partWords, sheetOf, sheetWords}
+use Rattle.cobalnis.specs.Words.{every, spread, float, floatWords, partOf, partWords, sheetOf, sheetWords}
 use Rattle.cobalnis.proofs.Turns.{spread-long}
 
 -- ---- what the types say

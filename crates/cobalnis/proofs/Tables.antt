@@ -1,12 +1,6 @@
--- What is left of a number once a `match` has named the ones below it, and what stands past the end of a table of names. Assumes nothing.
-use mathlib.Core.Path.{_≡_, refl, sym, ap, _∙_}
-use mathlib.Core.List.{[], _∷_}
-use Prim.Native.Nat.{ℕ, zero, suc, _+_, _-_, _*_, _≤_}
-use native.Mathlib.Omega.{arith}
-use lib.ListN.{getD}
-use lib.Seq.{getD-drop}
-use Rattle.stoney.specs.declared.StoneyNose.the-variants.{VonKarman}
-use Rattle.stoney.specs.Tables.{noses}
+-- Two constants, and the answer of a test under a code. Assumes nothing.
+use mathlib.Core.Path.{_≡_, refl, ap}
+use Prim.Native.Nat.{ℕ, _+_, _*_}
 use lib.Ieee.{Float, toBits, ofBits, round, div, binary64}
 use Rattle.elementary.specs.Arithmetic.{bits}
 use Rattle.elementary.specs.Constants.{0·0}
@@ -15,26 +9,7 @@ use mathlib.Core.Bool.{Bool, true, false, cond}
 use Rattle.aero_error.specs.declared.Quantity.{Quantity}
 use Rattle.aero_error.specs.Refusals.{codeOfQuantity}
 use Rattle.aero_error.specs.Checks.{required}
-use Rattle.cobalnis.specs.Answers.{noseAt, answerStatus, answerBits, tested}
-
--- n is none of the k numbers from m on, as the last arm of a `match` has it
-abbrev pub NoneFrom : ℕ → ℕ → ℕ → Type 0
-NoneFrom m zero n = Unit
-NoneFrom m (suc k) n = NoneFrom m k n × (n ≡ m + k → ⊥)
-
-pub above : (m k n : ℕ) → m ≤ n → NoneFrom m k n → m + k ≤ n
-above m zero n h none = omega (arith, h)
-above m (suc k) n h none = let low = above m k n h (none .0) in omega (arith, low, none .1)
-
--- from 8 on it is the last nose
-pub past-last : (n : ℕ) → 8 ≤ n → VonKarman ≡ noseAt n
-past-last n h =
-    let e : 8 + (n - 8) ≡ n = omega arith in
-    sym (ap (λ (k : ℕ). getD noses k VonKarman) (sym e) ∙ sym (getD-drop 8 noses (n - 8) VonKarman) ∙ only (n - 8))
-  where
-    only : (m : ℕ) → getD (VonKarman ∷ []) m VonKarman ≡ VonKarman
-    only zero = refl
-    only (suc m) = refl
+use Rattle.cobalnis.specs.Answers.{answerStatus, answerBits, tested}
 
 -- the constant 1/3 is the rounded quotient
 pub third-computed : bits 0x3fd5_5555_5555_5555 ≡ one-third

@@ -2,17 +2,18 @@
 -- Assumes nothing.
 use mathlib.Core.Path.{_≡_, refl, sym, ap, _∙_}
 use mathlib.Core.Bool.{Bool, true, false, cond}
-use mathlib.Core.List.{List, [], _∷_, _++_, append-assoc, append-nil}
+use mathlib.Core.List.{List, [], _∷_, _++_, append-nil}
 use Prim.Native.Nat.{ℕ, zero, suc, _+_, _-_, _*_, _<_}
 use native.Mathlib.Numerals.{add-one}
 use native.Mathlib.Nat.{suc-mul}
 use native.Mathlib.Omega.{arith}
 use lib.ListN.{length, set, getD, drop, replicate, length-append, drop-of-length-le}
-use lib.Seq.{set-at, sets, sets-eq, drop-cons, drop-drop, getD-drop}
+use lib.Seq.{sets, sets-eq, drop-cons, drop-drop, getD-drop}
 use lib.Dec.{ltb}
 use lib.Ieee.{Float}
 use Rattle.drag.specs.Friction.{machChecked}
 use Rattle.drag_sheet.specs.Tests.{_then_}
+use Rattle.cards.proofs.Numbers.{slot-next}
 use Rattle.sheet_text.proofs.Puts.{sets-append}
 use Rattle.cobalnis.specs.Words.{every, spread, shapesStand}
 use Rattle.cobalnis.specs.Answers.{machsTest}
@@ -39,13 +40,8 @@ every-more {A = A} read size (suc n) ws =
 pub slot-filled : {A : Type 0} (read : List ℕ → A) (z : A) (size total n : ℕ) (ws : List ℕ) → n < total
     → set (every read size n ws ++ replicate (total - n) z) n (read (drop (n * size) ws)) ≡ every read size (n + 1) ws ++ replicate (total - (n + 1)) z
 slot-filled {A = A} read z size total n ws h =
-    let x = read (drop (n * size) ws) in
-    let e : total - n ≡ suc (total - (n + 1)) = omega arith in
-    let rest = replicate (total - (n + 1)) z in
-    ap (λ (k : ℕ). set (every read size n ws ++ replicate k z) n x) e
-    ∙ set-at (every read size n ws) z rest x n (every-long read size n ws)
-    ∙ sym (append-assoc (every read size n ws) (x ∷ []) rest)
-    ∙ ap (λ (xs : List A). xs ++ rest) (sym (ap (λ (k : ℕ). every read size k ws) (add-one n) ∙ every-more read size n ws))
+    slot-next (every read size n ws) (read (drop (n * size) ws)) z total n (every-long read size n ws) h
+    ∙ ap (λ (xs : List A). xs ++ replicate (total - (n + 1)) z) (sym (ap (λ (k : ℕ). every read size k ws) (add-one n) ∙ every-more read size n ws))
 
 -- a word at a place of what is left
 pub word-at : (ws : List ℕ) (at k : ℕ) → getD ws (at + k) 0 ≡ getD (drop k (drop at ws)) 0 0

@@ -21,9 +21,8 @@ use Rattle.drag.specs.Friction.{machChecked, criticalReynolds, incompressibleSk
 use Rattle.drag.specs.Pressure.{stagnationRatio, stagnationPressureRatio, stagnationDragCoefficient, baseDragCoefficient, jointPressureDragCoefficient, boattailFactor}
 use Rattle.shapes.specs.declared.NoseShape.{NoseShape}
 use Rattle.shapes.specs.declared.NoseShape.the-variants.{Haack}
-use Rattle.stoney.specs.declared.StoneyNose.{StoneyNose}
-use Rattle.stoney.specs.declared.StoneyNose.the-variants.{VonKarman}
-use Rattle.stoney.specs.Tables.{noses}
+use Rattle.shapes.specs.Numbers.{shapeOf, parameterOf}
+use Rattle.stoney.specs.Tables.{noseAt}
 use Rattle.stoney.specs.Points.{machAt, dragAt, rangeOf, firstMach}
 use Rattle.stoney.specs.Lookup.{valueAndSlope}
 use Rattle.nose_drag.specs.declared.PressureDragCurve.{PressureDragCurve}
@@ -43,10 +42,9 @@ use Rattle.drag_sheet.specs.Calls.{Call, Called, Opened, emptySlots}
 use Rattle.cards.specs.declared.PartRead.{PartRead}
 use Rattle.cards.specs.declared.PartRead.the-variants.{Read, Refused as NoPart}
 use Rattle.cards.specs.declared.SettingsRead.{SettingsRead}
-use Rattle.cards.specs.Cards.{shapeOf}
 use Rattle.cobalnis.specs.declared.Formula.{Formula}
 use Rattle.cobalnis.specs.declared.Formula.the-variants.{Is, Unknown}
-use Rattle.cobalnis.specs.Words.{spread, parameterOf, partWords, settingsOf, settingsWords, sheetOf, sheetWords, shapesStand}
+use Rattle.cobalnis.specs.Words.{spread, partWords, settingsOf, settingsWords, sheetOf, sheetWords, shapesStand}
 
 -- ---- the status and the bits of an answer
 
@@ -125,9 +123,6 @@ abbrev pub dimensionBits : ℕ → Bool → Float → ℕ → ℕ
 dimensionBits what ok value before = cond (isCode what) (cond ok 0 (toBits binary64 value)) before
 
 -- ---- Stoney's noses, by their numbers from 0
-
-abbrev pub noseAt : ℕ → StoneyNose
-noseAt n = getD noses n VonKarman
 
 abbrev pub isNose : ℕ → Bool
 isNose n = leb n 8

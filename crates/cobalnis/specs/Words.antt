@@ -9,15 +9,11 @@ use lib.ListN.{getD, drop}
 use lib.Dec.{ltb}
 use lib.Ieee.{Float, toBits, binary64}
 use Rattle.elementary.specs.Arithmetic.{bits}
-use Rattle.elementary.specs.Constants.{0·0}
-use Rattle.shapes.specs.declared.NoseShape.{NoseShape}
-use Rattle.shapes.specs.declared.NoseShape.the-variants.{Conical, Ogive, Elliptical, PowerSeries, ParabolicSeries, Haack}
-use Rattle.shapes.specs.Numbers.{numberOfShape}
+use Rattle.shapes.specs.Numbers.{numberOfShape, shapeOf, parameterOf}
 use Rattle.drag_sheet.specs.declared.Settings.{Settings}
 use Rattle.drag_sheet.specs.declared.Part.{Part}
 use Rattle.drag_sheet.specs.declared.Sheet.{Sheet}
 use Rattle.drag_sheet.specs.Layout.{most-columns, part-rows}
-use Rattle.cards.specs.Cards.{shapeOf}
 
 -- ---- what words stand for
 
@@ -65,15 +61,6 @@ spread words (x ∷ xs) = words x ++ spread words xs
 
 abbrev pub floatWords : Float → List ℕ
 floatWords x = toBits binary64 x ∷ []
-
--- a shape without a parameter has +0 in its place
-abbrev pub parameterOf : NoseShape → Float
-parameterOf Conical = 0·0
-parameterOf (Ogive radius-ratio) = radius-ratio
-parameterOf Elliptical = 0·0
-parameterOf (PowerSeries exponent) = exponent
-parameterOf (ParabolicSeries parameter) = parameter
-parameterOf (Haack parameter) = parameter
 
 abbrev pub partWords : Part → List ℕ
 partWords p =

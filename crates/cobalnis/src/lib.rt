@@ -15,11 +15,12 @@ ghost use Rattle.nose_drag.specs.Curves.{takesConeFormula};
 ghost use Rattle.drag_sheet.specs.Calls.{insert as insertCall, remove as removeCall, replace as replaceCall, column as columnCall};
 ghost use Rattle.drag_sheet.specs.Tests.{_then_, unless};
 ghost use Rattle.aero_error.specs.declared.AeroError.the-variants.{TooFewCells};
-ghost use Rattle.cards.specs.Cards.{shapeOf, partAt, settingsAt};
+ghost use Rattle.cards.specs.Cards.{partAt, settingsAt};
+ghost use Rattle.shapes.specs.Numbers.{shapeOf};
 ghost use Rattle.sheet_text.specs.Text.{Printed};
 ghost use lib.Ieee.{toBits, binary64};
 ghost use Rattle.cobalnis.specs.Words.{spread, partOf};
-ghost use Rattle.cobalnis.specs.Answers.{statusOf, no-such, answerStatus, answerBits, tested, formulaOf, FormulaDone, dimensionStatus, dimensionBits, noseAt, isNose, pointStatus, pointWords, lookupWords, curveOf, machsTest, coefficientBits, coefficientWord, about, ReadAt, CurveAnswered, Shown, CallDone, OpenShown, sheetStands, partStands, PartCard, SettingsCard};
+ghost use Rattle.cobalnis.specs.Answers.{statusOf, no-such, answerStatus, answerBits, tested, formulaOf, FormulaDone, dimensionStatus, dimensionBits, isNose, pointStatus, pointWords, lookupWords, curveOf, machsTest, coefficientBits, coefficientWord, about, ReadAt, CurveAnswered, Shown, CallDone, OpenShown, sheetStands, partStands, PartCard, SettingsCard};
 
 mod words;
 
@@ -109,8 +110,8 @@ fn formula_of(which: u32, a: f64, b: f64, c: f64, d: f64, e: f64) -> Formula
         17 => Formula::Is(nose_drag::fineness_scaled_pressure_drag(a, b, c)),
         18 => Formula::Is(nose_drag::ellipsoid_subsonic_pressure_drag(a, b)),
         19 => Formula::Is(Coefficient::Value(drag::stagnation_ratio(a))),
-        20 => Formula::Is(Coefficient::Value(words::parameter_of(NoseShape::VON_KARMAN))),
-        21 => Formula::Is(Coefficient::Value(words::parameter_of(NoseShape::LV_HAACK))),
+        20 => Formula::Is(Coefficient::Value(NoseShape::VON_KARMAN.parameter())),
+        21 => Formula::Is(Coefficient::Value(NoseShape::LV_HAACK.parameter())),
         _ => Formula::Unknown,
     }
 }
@@ -191,7 +192,7 @@ pub extern "C" fn cobalnis_takes_cone_formula(shape: u64, parameter: f64) -> u32
     if 5 < shape {
         return NO_SUCH;
     }
-    if nose_drag::takes_cone_formula(words::shape_of(shape, parameter)) {
+    if nose_drag::takes_cone_formula(NoseShape::of_number(shape, parameter)) {
         1
     } else {
         0
@@ -200,29 +201,13 @@ pub extern "C" fn cobalnis_takes_cone_formula(shape: u64, parameter: f64) -> u32
 
 // ---- Stoney's noses
 
-fn nose_of(number: u32) -> StoneyNose
-    ensures { λ r. ⌜ r ≡ noseAt number ⌝ }
-{
-    match number {
-        0 => StoneyNose::PowerQuarter,
-        1 => StoneyNose::PowerHalf,
-        2 => StoneyNose::PowerThreeQuarters,
-        3 => StoneyNose::ParabolaHalf,
-        4 => StoneyNose::ParabolaThreeQuarters,
-        5 => StoneyNose::Parabola,
-        6 => StoneyNose::Ellipsoid,
-        7 => StoneyNose::LvHaack,
-        _ => StoneyNose::VonKarman,
-    }
-}
-
 // The Mach and the drag of a nose's point.
 #[no_mangle]
 pub extern "C" fn cobalnis_nose_point(nose: u32, place: usize, out: &mut [u64; 2]) -> u32
     ensures { λ r. ⌜ (r ≡ pointStatus nose place) × (now (out .exit) ≡ pointWords nose place (now (out .entry))) ⌝ }
 {
     if nose <= 8 {
-        let range = nose_of(nose).points();
+        let range = StoneyNose::of_number(nose as u64).points();
         if range.count <= place {
             return status_of(AeroError::NoSuchPlace);
         }
@@ -242,7 +227,7 @@ pub extern "C" fn cobalnis_nose_lookup(nose: u32, mach: f64, out: &mut [u64; 3])
     ensures { λ r. ⌜ (r ≡ cond (isNose nose) 0 no-such) × (now (out .exit) ≡ lookupWords nose mach (now (out .entry))) ⌝ }
 {
     if nose <= 8 {
-        let known = nose_of(nose);
+        let known = StoneyNose::of_number(nose as u64);
         let at = known.value_and_slope(mach);
         *out = [
             elementary::to_bits(at.value),
@@ -263,7 +248,7 @@ fn curve_of(shape: u64, parameter: f64, fineness_ratio: f64, joint_angle_rad: f6
         return Curve::Built(PressureDragCurve::step());
     }
     PressureDragCurve::new(
-        words::shape_of(shape, parameter),
+        NoseShape::of_number(shape, parameter),
         fineness_ratio,
         joint_angle_rad,
     )

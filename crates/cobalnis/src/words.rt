@@ -4,8 +4,7 @@ ghost use mathlib.Core.Path.{_≡_};
 ghost use Prim.Native.Nat.{_≤_};
 ghost use lib.ListN.{drop};
 ghost use lib.Seq.{sets};
-ghost use Rattle.cards.specs.Cards.{shapeOf};
-ghost use Rattle.cobalnis.specs.Words.{every, spread, float, floatWords, parameterOf, partOf, partWords, settingsOf, settingsWords, sheetOf, sheetWords, shapesStand};
+ghost use Rattle.cobalnis.specs.Words.{every, spread, float, floatWords, partOf, partWords, settingsOf, settingsWords, sheetOf, sheetWords, shapesStand};
 use drag_sheet::Design;
 use drag_sheet::Part;
 use drag_sheet::Settings;
@@ -17,45 +16,13 @@ const FIRST_PART: usize = 69;
 
 const PART_WORDS: usize = 6;
 
-// The shape's parameter, +0 for a shape that has none.
-pub fn parameter_of(shape: NoseShape) -> f64
-    ensures { λ r. ⌜ r ≡ parameterOf shape ⌝ }
-{
-    match shape {
-        NoseShape::Conical => 0.0,
-        NoseShape::Ogive { radius_ratio } => radius_ratio,
-        NoseShape::Elliptical => 0.0,
-        NoseShape::PowerSeries { exponent } => exponent,
-        NoseShape::ParabolicSeries { parameter } => parameter,
-        NoseShape::Haack { parameter } => parameter,
-    }
-}
-
-// The shape of a word; one above 5 counts as 5.
-pub fn shape_of(word: u64, parameter: f64) -> NoseShape
-    ensures { λ r. ⌜ r ≡ shapeOf word parameter ⌝ }
-{
-    match word {
-        0 => NoseShape::Conical,
-        1 => NoseShape::Ogive {
-            radius_ratio: parameter,
-        },
-        2 => NoseShape::Elliptical,
-        3 => NoseShape::PowerSeries {
-            exponent: parameter,
-        },
-        4 => NoseShape::ParabolicSeries { parameter },
-        _ => NoseShape::Haack { parameter },
-    }
-}
-
 // ---- from words
 
 pub fn part_of(words: &[u64; 6]) -> Part
     ensures { λ r. ⌜ r ≡ partOf (now (words .entry)) ⌝ }
 {
     Part {
-        shape: shape_of(words[0], elementary::from_bits(words[1])),
+        shape: NoseShape::of_number(words[0], elementary::from_bits(words[1])),
         length: elementary::from_bits(words[2]),
         aft_diameter: elementary::from_bits(words[3]),
         joint_angle: elementary::from_bits(words[4]),
@@ -69,7 +36,7 @@ fn part_at(words: &[u64; 165], at: usize) -> Part
     ensures { λ r. ⌜ r ≡ partOf (drop at (now (words .entry))) ⌝ }
 {
     Part {
-        shape: shape_of(words[at], elementary::from_bits(words[at + 1])),
+        shape: NoseShape::of_number(words[at], elementary::from_bits(words[at + 1])),
         length: elementary::from_bits(words[at + 2]),
         aft_diameter: elementary::from_bits(words[at + 3]),
         joint_angle: elementary::from_bits(words[at + 4]),
@@ -161,7 +128,7 @@ pub fn part_words(part: Part) -> [u64; 6]
     let shape = part.shape;
     [
         shape.number() as u64,
-        elementary::to_bits(parameter_of(shape)),
+        elementary::to_bits(shape.parameter()),
         elementary::to_bits(part.length),
         elementary::to_bits(part.aft_diameter),
         elementary::to_bits(part.joint_angle),

@@ -6,3 +6,4 @@ pub mod Powers
 pub mod Value
 pub mod Sizes
 pub mod Nearest
+pub mod Cases

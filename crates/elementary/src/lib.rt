@@ -38,8 +38,8 @@ pub struct Whole {
     pub size: u64,
 }
 
-// The one place where a float is taken apart. Leading zeros bring a subnormal's significand to 53
-// digits.
+// Where a float is taken apart: of any other only `guess` reads the digits, a normal number's, and its
+// answer is tested. Leading zeros bring a subnormal's significand to 53 digits.
 fn split(x: f64) -> Parts
     ensures { λ r. ⌜ r ≡ splitOf x ⌝ }
 {

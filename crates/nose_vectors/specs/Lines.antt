@@ -2,12 +2,12 @@
 use Prim.Native.Nat.{ℕ, _+_}
 use mathlib.Core.Bool.{Bool, cond}
 use mathlib.Core.List.{List}
-use lib.Dec.{eqb, ltb}
+use lib.Dec.{eqb, ltb, leb}
 use lib.Ieee.{Float}
 use Rattle.elementary.specs.Arithmetic.{bits}
-use Rattle.shapes.specs.declared.NoseShape.the-variants.{Conical, Ogive, Elliptical, PowerSeries, ParabolicSeries, Haack}
+use Rattle.shapes.specs.Numbers as Numbers
+use Rattle.stoney.specs.Tables.{noseAt}
 use Rattle.stoney.specs.declared.StoneyNose.{StoneyNose}
-use Rattle.stoney.specs.declared.StoneyNose.the-variants.{PowerQuarter, PowerHalf, PowerThreeQuarters, ParabolaHalf, ParabolaThreeQuarters, Parabola, Ellipsoid, LvHaack, VonKarman}
 use Rattle.stoney.specs.Points.{machAt, dragAt, rangeOf, firstMach}
 use Rattle.stoney.specs.Lookup.{valueAndSlope}
 use Rattle.nose_drag.specs.declared.PressureDragCurve.{PressureDragCurve}
@@ -42,27 +42,12 @@ argumentsOf number index third fourth fifth =
     }
 
 -- document 01's shape bytes
-unfoldable pub shapeOf : ℕ → Float → Shape
-shapeOf number parameter =
-    cond (eqb number 0) (Shape.Is Conical)
-    (cond (eqb number 1) (Shape.Is (Ogive parameter))
-    (cond (eqb number 2) (Shape.Is Elliptical)
-    (cond (eqb number 3) (Shape.Is (PowerSeries parameter))
-    (cond (eqb number 4) (Shape.Is (ParabolicSeries parameter))
-    (cond (eqb number 5) (Shape.Is (Haack parameter)) Shape.NoSuchShape)))))
+abbrev pub shapeOf : ℕ → Float → Shape
+shapeOf number parameter = cond (leb number 5) (Shape.Is (Numbers.shapeOf number parameter)) Shape.NoSuchShape
 
 -- the noses in the order of the original's `StoneyNose::ALL`
-unfoldable pub noseOf : ℕ → Nose
-noseOf number =
-    cond (eqb number 0) (Nose.Is PowerQuarter)
-    (cond (eqb number 1) (Nose.Is PowerHalf)
-    (cond (eqb number 2) (Nose.Is PowerThreeQuarters)
-    (cond (eqb number 3) (Nose.Is ParabolaHalf)
-    (cond (eqb number 4) (Nose.Is ParabolaThreeQuarters)
-    (cond (eqb number 5) (Nose.Is Parabola)
-    (cond (eqb number 6) (Nose.Is Ellipsoid)
-    (cond (eqb number 7) (Nose.Is LvHaack)
-    (cond (eqb number 8) (Nose.Is VonKarman) Nose.NoSuchNose))))))))
+abbrev pub noseOf : ℕ → Nose
+noseOf number = cond (leb number 8) (Nose.Is (noseAt number)) Nose.NoSuchNose
 
 -- the point of this index in the nose's range of the two arrays
 unfoldable pub pointOf : StoneyNose → ℕ → Point

@@ -92,18 +92,10 @@ enum OfCurve {
 fn shape_of(number: u64, parameter: f64) -> Shape
     ensures { λ r. ⌜ r ≡ shapeOf number parameter ⌝ }
 {
-    match number {
-        0 => Shape::Is(NoseShape::Conical),
-        1 => Shape::Is(NoseShape::Ogive {
-            radius_ratio: parameter,
-        }),
-        2 => Shape::Is(NoseShape::Elliptical),
-        3 => Shape::Is(NoseShape::PowerSeries {
-            exponent: parameter,
-        }),
-        4 => Shape::Is(NoseShape::ParabolicSeries { parameter }),
-        5 => Shape::Is(NoseShape::Haack { parameter }),
-        _ => Shape::NoSuchShape,
+    if number <= 5 {
+        Shape::Is(NoseShape::of_number(number, parameter))
+    } else {
+        Shape::NoSuchShape
     }
 }
 
@@ -111,17 +103,10 @@ fn shape_of(number: u64, parameter: f64) -> Shape
 fn nose_of(number: u64) -> Nose
     ensures { λ r. ⌜ r ≡ noseOf number ⌝ }
 {
-    match number {
-        0 => Nose::Is(StoneyNose::PowerQuarter),
-        1 => Nose::Is(StoneyNose::PowerHalf),
-        2 => Nose::Is(StoneyNose::PowerThreeQuarters),
-        3 => Nose::Is(StoneyNose::ParabolaHalf),
-        4 => Nose::Is(StoneyNose::ParabolaThreeQuarters),
-        5 => Nose::Is(StoneyNose::Parabola),
-        6 => Nose::Is(StoneyNose::Ellipsoid),
-        7 => Nose::Is(StoneyNose::LvHaack),
-        8 => Nose::Is(StoneyNose::VonKarman),
-        _ => Nose::NoSuchNose,
+    if number <= 8 {
+        Nose::Is(StoneyNose::of_number(number))
+    } else {
+        Nose::NoSuchNose
     }
 }
 

@@ -5,6 +5,7 @@ use mathlib.Core.List.{List}
 use lib.Dec.{ltb, leb}
 use lib.ListN.{getD, set, replicate}
 use Rattle.replay.specs.declared.Counts.{Counts}
+use Rattle.replay.specs.declared.Tally.{Tally}
 
 abbrev pub noCounts : Counts
 noCounts = record { asked = replicate 27 0; agreed = replicate 27 0; lines = 0; right = 0 }
@@ -29,3 +30,10 @@ counted c tag agrees =
       lines = oneMore (c .lines);
       right = cond agrees (oneMore (c .right)) (c .right);
     }
+
+-- what is written of a tag, and of the whole list
+abbrev pub tallyOf : Counts → ℕ → Tally
+tallyOf c tag = record { agreed = getD (c .agreed) (placeOf tag) 0; asked = getD (c .asked) (placeOf tag) 0 }
+
+abbrev pub tallyOfAll : Counts → Tally
+tallyOfAll c = record { agreed = c .right; asked = c .lines }

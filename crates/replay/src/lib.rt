@@ -5,7 +5,7 @@ ghost use Prim.Native.Nat.{_≤_, _<_};
 ghost use lib.ListN.{length};
 ghost use Rattle.replay.specs.Fields.{digitOf, digitsOf, fieldAt, bitsAt, pairAt, endsAt, tagOf};
 ghost use Rattle.replay.specs.Answers.{accepted, ofValue, ofRefusal, ofCoefficient, ofCheck, fieldIs, endsWithBits, endsWith, answered};
-ghost use Rattle.replay.specs.Counts.{noCounts, oneMore, placeOf, counted};
+ghost use Rattle.replay.specs.Counts.{noCounts, oneMore, placeOf, counted, tallyOf, tallyOfAll};
 use aero_error::AeroError;
 use aero_error::Check;
 use aero_error::Coefficient;
@@ -239,6 +239,12 @@ pub struct Counts {
     pub right: u64,
 }
 
+// How many lines agree of how many.
+pub struct Tally {
+    pub agreed: u64,
+    pub asked: u64,
+}
+
 // What is counted so far, and whether there may be more lines.
 pub struct Turn {
     pub counts: Counts,
@@ -292,27 +298,41 @@ impl Counts {
         self
     }
 
-    // Writes the line of one tag: its name, and how many agree of how many. It answers nothing, and
-    // no contract can speak of what is written; each program's file `stdout` is held to it.
-    pub fn write(self, name: &[u8], tag: u8) {
+    // Writes the line of one tag: its name, and how many agree of how many, which it answers too. No
+    // contract can speak of what is written; each program's file `stdout` is held to it.
+    pub fn write(self, name: &[u8], tag: u8) -> Tally
+        ensures { λ r. ⌜ r ≡ tallyOf self tag ⌝ }
+    {
         let place = place_of(tag);
+        let tally = Tally {
+            agreed: self.agreed[place],
+            asked: self.asked[place],
+        };
         io::write_all(STDOUT_FILENO, name);
         io::write_all(STDOUT_FILENO, b" ");
-        write_of(self.agreed[place], self.asked[place]);
+        write_of(tally);
         io::write_all(STDOUT_FILENO, b"\n");
+        tally
     }
 
     // Writes the line of the whole list.
-    pub fn write_all(self, name: &[u8]) {
+    pub fn write_all(self, name: &[u8]) -> Tally
+        ensures { λ r. ⌜ r ≡ tallyOfAll self ⌝ }
+    {
+        let tally = Tally {
+            agreed: self.right,
+            asked: self.lines,
+        };
         io::write_all(STDOUT_FILENO, name);
         io::write_all(STDOUT_FILENO, b": ");
-        write_of(self.right, self.lines);
+        write_of(tally);
         io::write_all(STDOUT_FILENO, b" agree\n");
+        tally
     }
 }
 
-fn write_of(agreed: u64, asked: u64) {
-    io::print_decimal(STDOUT_FILENO, agreed);
+fn write_of(tally: Tally) {
+    io::print_decimal(STDOUT_FILENO, tally.agreed);
     io::write_all(STDOUT_FILENO, b" of ");
-    io::print_decimal(STDOUT_FILENO, asked);
+    io::print_decimal(STDOUT_FILENO, tally.asked);
 }

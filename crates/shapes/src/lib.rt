@@ -1,6 +1,6 @@
 // The shape of a nose cone (shapes.rs), with document 01's shape numbers. Nothing else of shapes.rs is here.
 ghost use mathlib.Core.Path.{_≡_};
-ghost use Rattle.shapes.specs.Numbers.{numberOfShape};
+ghost use Rattle.shapes.specs.Numbers.{numberOfShape, shapeOf, parameterOf};
 
 pub enum NoseShape {
     // A straight cone.
@@ -35,6 +35,38 @@ impl NoseShape {
             NoseShape::PowerSeries { exponent: _ } => 3,
             NoseShape::ParabolicSeries { parameter: _ } => 4,
             NoseShape::Haack { parameter: _ } => 5,
+        }
+    }
+
+    // The shape of a number, with this parameter where it has one; a number above 5 counts as 5.
+    pub fn of_number(number: u64, parameter: f64) -> NoseShape
+        ensures { λ r. ⌜ r ≡ shapeOf number parameter ⌝ }
+    {
+        match number {
+            0 => NoseShape::Conical,
+            1 => NoseShape::Ogive {
+                radius_ratio: parameter,
+            },
+            2 => NoseShape::Elliptical,
+            3 => NoseShape::PowerSeries {
+                exponent: parameter,
+            },
+            4 => NoseShape::ParabolicSeries { parameter },
+            _ => NoseShape::Haack { parameter },
+        }
+    }
+
+    // The parameter, +0 for a shape that has none.
+    pub fn parameter(self) -> f64
+        ensures { λ r. ⌜ r ≡ parameterOf self ⌝ }
+    {
+        match self {
+            NoseShape::Conical => 0.0,
+            NoseShape::Ogive { radius_ratio } => radius_ratio,
+            NoseShape::Elliptical => 0.0,
+            NoseShape::PowerSeries { exponent } => exponent,
+            NoseShape::ParabolicSeries { parameter } => parameter,
+            NoseShape::Haack { parameter } => parameter,
         }
     }
 }

@@ -76,26 +76,10 @@ fn arguments_of(line: &[u8]) -> Read {
     })
 }
 
-// The shape of a number; 0 and 2 have no parameter.
-fn shape_of(number: u64, parameter: f64) -> NoseShape {
-    match number {
-        0 => NoseShape::Conical,
-        1 => NoseShape::Ogive {
-            radius_ratio: parameter,
-        },
-        2 => NoseShape::Elliptical,
-        3 => NoseShape::PowerSeries {
-            exponent: parameter,
-        },
-        4 => NoseShape::ParabolicSeries { parameter },
-        _ => NoseShape::Haack { parameter },
-    }
-}
-
 // The part of a line; its place is the first argument.
 fn part_of(x: Arguments) -> Part {
     Part {
-        shape: shape_of(x.second, from_bits(x.third)),
+        shape: NoseShape::of_number(x.second, from_bits(x.third)),
         length: from_bits(x.fourth),
         aft_diameter: from_bits(x.fifth),
         joint_angle: from_bits(x.sixth),

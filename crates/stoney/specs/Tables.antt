@@ -3,12 +3,17 @@
 -- of his reference 30, which starts at Mach 1.2.
 use Prim.Native.Nat.{ℕ}
 use mathlib.Core.List.{List, [], _∷_}
+use lib.ListN.{getD}
 use Rattle.stoney.specs.declared.StoneyNose.{StoneyNose}
 use Rattle.stoney.specs.declared.StoneyNose.the-variants.{PowerQuarter, PowerHalf, PowerThreeQuarters, ParabolaHalf, ParabolaThreeQuarters, Parabola, Ellipsoid, LvHaack, VonKarman}
 
 -- the order of the Rust's `ALL`
 abbrev pub noses : List StoneyNose
 noses = PowerQuarter ∷ PowerHalf ∷ PowerThreeQuarters ∷ ParabolaHalf ∷ ParabolaThreeQuarters ∷ Parabola ∷ Ellipsoid ∷ LvHaack ∷ VonKarman ∷ []
+
+-- the nose of a number from 0; past the list it is the last
+abbrev pub noseAt : ℕ → StoneyNose
+noseAt n = getD noses n VonKarman
 
 abbrev pub tabled : StoneyNose → List (ℕ × ℕ)
 -- Power series x^1/4: panel (b); read to ±0.0014, at most ±0.003

@@ -1,6 +1,7 @@
 // Stoney's nine measured noses (NASA TR R-100, 1961, figure 12, fineness 3) as points of Mach and pressure drag, and the value and slope that a
 // table gives at any Mach number (nose_drag.rs, `StoneyNose`). Two flat arrays hold the points of all nine, and each nose has its range in them.
 ghost use mathlib.Core.Path.{_≡_};
+ghost use Rattle.stoney.specs.Tables.{noseAt};
 ghost use Rattle.stoney.specs.Points.{machAt, dragAt, rangeOf, firstMach};
 ghost use Rattle.stoney.specs.Lookup.{before, line, lookup, valueAndSlope};
 ghost use Rattle.stoney.specs.Stored.{Stored, stretch};
@@ -451,6 +452,23 @@ fn walk_points(
 }
 
 impl StoneyNose {
+    // The nose of a number, in the order of the Rust's `ALL`; a number above 8 counts as 8.
+    pub fn of_number(number: u64) -> StoneyNose
+        ensures { λ r. ⌜ r ≡ noseAt number ⌝ }
+    {
+        match number {
+            0 => StoneyNose::PowerQuarter,
+            1 => StoneyNose::PowerHalf,
+            2 => StoneyNose::PowerThreeQuarters,
+            3 => StoneyNose::ParabolaHalf,
+            4 => StoneyNose::ParabolaThreeQuarters,
+            5 => StoneyNose::Parabola,
+            6 => StoneyNose::Ellipsoid,
+            7 => StoneyNose::LvHaack,
+            _ => StoneyNose::VonKarman,
+        }
+    }
+
     // Where the nose's points stand in the two arrays.
     pub fn points(self) -> PointRange
         ensures { λ r. ⌜ r ≡ rangeOf self ⌝ }

@@ -16,8 +16,11 @@ enum-known-e c = search needs
 enum-known-value : tie.Need-enum-known-value
 enum-known-value c = search needs
 
-shape-of-requires : tie.Need-shape-of-requires
-shape-of-requires c κs = search needs
+wide-requires : tie.Need-wide-requires
+wide-requires c κs = search needs
+
+of-number-requires : tie.Need-of-number-requires
+of-number-requires c κs = search needs
 
 returns : tie.Need-returns
 unfolding parameterAt
@@ -28,8 +31,8 @@ returns c =
 returns-2 : tie.Need-returns-2
 unfolding parameterAt
 returns-2 c =
-    let b = c .before .before .before .before in
-    simp (← b .before .before .parameter-right .ensures, b .before .if1 .taken, ← b .read-number .ensures, c .before .before .value .given .1, c .shape-of .ensures)
+    let b = c .before .before .before .before .before in
+    simp (← b .before .before .parameter-right .ensures, b .before .if1 .taken, ← b .read-number .ensures, c .before .before .before .value .given .1, c .of-number .ensures, c .before .wide .ensures .0)
 
 returns-3 : tie.Need-returns-3
 unfolding parameterAt
@@ -44,7 +47,8 @@ read-parameter-spec =
     read-number-requires
     enum-known-e
     enum-known-value
-    shape-of-requires
+    wide-requires
+    of-number-requires
     returns
     returns-2
     returns-3)

@@ -4,8 +4,8 @@ use borrow.Author.Needs.{needs}
 use Rattle.cobalnis.proofs.cobalnis_nose_lookup.Statement.{statement}
 use Rattle.cobalnis.proofs.cobalnis_nose_lookup.Tie as tie
 
-nose-of-requires : tie.Need-nose-of-requires
-nose-of-requires c κs = search needs
+of-number-requires : tie.Need-of-number-requires
+of-number-requires c κs = search needs
 
 value-and-slope-requires : tie.Need-value-and-slope-requires
 value-and-slope-requires c κs = search needs
@@ -23,7 +23,7 @@ to-bits-requires-3 : tie.Need-to-bits-requires-3
 to-bits-requires-3 c κs = search needs
 
 returns : tie.Need-returns
-returns c = let k = le-leb _ _ (c .before .before .before .before .before .before .before .if1 .taken) in (simp k, simp (k, c .before .to-bits3 .ensures, c .before .before .first-mach .ensures, c .before .before .before .to-bits2 .ensures, c .before .before .before .before .to-bits .ensures, c .before .before .before .before .before .value-and-slope .ensures, c .before .before .before .before .before .before .nose-of .ensures))
+returns c = let k = le-leb _ _ (c .before .before .before .before .before .before .before .if1 .taken) in (simp k, simp (k, c .before .to-bits3 .ensures, c .before .before .first-mach .ensures, c .before .before .before .to-bits2 .ensures, c .before .before .before .before .to-bits .ensures, c .before .before .before .before .before .value-and-slope .ensures, c .before .before .before .before .before .before .of-number .ensures))
 
 returns-2 : tie.Need-returns-2
 returns-2 c = let k = lt-leb _ _ (c .if1 .left) in (simp k, simp k)
@@ -32,7 +32,7 @@ pub cobalnis-nose-lookup-spec : {M : Type 1} → statement M
 cobalnis-nose-lookup-spec =
     tie.close
     (tie.spec
-    nose-of-requires
+    of-number-requires
     value-and-slope-requires
     to-bits-requires
     to-bits-requires-2

@@ -8,8 +8,8 @@ use borrow.Author.Needs.{needs}
 use Rattle.cobalnis.proofs.cobalnis_nose_point.Statement.{statement}
 use Rattle.cobalnis.proofs.cobalnis_nose_point.Tie as tie
 
-nose-of-requires : tie.Need-nose-of-requires
-nose-of-requires c κs = search needs
+of-number-requires : tie.Need-of-number-requires
+of-number-requires c κs = search needs
 
 points-requires : tie.Need-points-requires
 points-requires c κs = search needs
@@ -20,13 +20,13 @@ status-of-requires c κs = search needs
 returns : tie.Need-returns
 returns c =
     let k = le-leb _ _ (c .before .before .before .before .before .if1 .taken) in
-    let q = c .before .before .before .points .ensures ∙ ap rangeOf (c .before .before .before .before .nose-of .ensures) in
+    let q = c .before .before .before .points .ensures ∙ ap rangeOf (c .before .before .before .before .of-number .ensures) in
     let t = le-leb _ _ (c .before .if2 .taken) in
     (simp (k, ← q, t, c .status-of .ensures), simp (k, ← q, t))
 
 add-at : tie.Need-add-at
 add-at c =
-    let h = range-within (c .before .before .before .before .nose-of .result) .1 in
+    let h = range-within (c .before .before .before .before .of-number .result) .1 in
     let r = c .before .before .before .points .ensures in
     let first = ap (λ (p : PointRange). p .first) r in
     let count = ap (λ (p : PointRange). p .count) r in
@@ -48,7 +48,7 @@ returns-2 : tie.Need-returns-2
 returns-2 c =
     let e = c .before .before .before .before .before .before in
     let k = le-leb _ _ (e .before .before .before .before .if1 .taken) in
-    let q = e .before .before .points .ensures ∙ ap rangeOf (e .before .before .before .nose-of .ensures) in
+    let q = e .before .before .points .ensures ∙ ap rangeOf (e .before .before .before .of-number .ensures) in
     let f = lt-leb _ _ (e .if2 .left) in
     (simp (k, ← q, f), simp (k, ← q, f, c .before .to-bits2 .ensures, c .before .before .drag-at .ensures, c .before .before .before .to-bits .ensures, c .before .before .before .before .mach-at .ensures))
 
@@ -59,7 +59,7 @@ pub cobalnis-nose-point-spec : {M : Type 1} → statement M
 cobalnis-nose-point-spec =
     tie.close
     (tie.spec
-    nose-of-requires
+    of-number-requires
     points-requires
     status-of-requires
     returns

@@ -3,7 +3,8 @@ use mathlib.Core.Path.{sym}
 use native.Mathlib.Omega.{arith}
 use lib.ListN.{List·getD-eq-default}
 use Rattle.cobalnis.specs.Answers.{formulas}
-use Rattle.cobalnis.proofs.Tables.{above, third-computed}
+use Rattle.cobalnis.proofs.Tables.{third-computed}
+use Rattle.elementary.proofs.Cases.{above}
 use borrow.Author.Needs.{needs}
 use Rattle.cobalnis.proofs.formula_of.Statement.{statement}
 use Rattle.cobalnis.proofs.formula_of.Tie as tie
@@ -71,11 +72,11 @@ ellipsoid-subsonic-pressure-drag-requires c κs = search needs
 stagnation-ratio-requires : tie.Need-stagnation-ratio-requires
 stagnation-ratio-requires c κs = search needs
 
-parameter-of-requires : tie.Need-parameter-of-requires
-parameter-of-requires c κs = search needs
+parameter-requires : tie.Need-parameter-requires
+parameter-requires c κs = search needs
 
-parameter-of-requires-2 : tie.Need-parameter-of-requires-2
-parameter-of-requires-2 c κs = search needs
+parameter-requires-2 : tie.Need-parameter-requires-2
+parameter-requires-2 c κs = search needs
 
 returns : tie.Need-returns
 returns c = simp (c .before .match .keys1, c .sqrt .ensures)
@@ -138,10 +139,10 @@ returns-20 : tie.Need-returns-20
 returns-20 c = simp (c .before .match .keys20, c .stagnation-ratio .ensures)
 
 returns-21 : tie.Need-returns-21
-returns-21 c = simp (c .before .match .keys21, c .parameter-of .ensures)
+returns-21 c = simp (c .before .match .keys21, c .parameter .ensures)
 
 returns-22 : tie.Need-returns-22
-returns-22 c = simp (c .before .match .keys22, c .parameter-of2 .ensures, ← third-computed)
+returns-22 c = simp (c .before .match .keys22, c .parameter2 .ensures, ← third-computed)
 
 returns-23 : tie.Need-returns-23
 returns-23 c = sym (List·getD-eq-default (formulas _ _ _ _ _) _ (above 0 22 _ (omega arith) (c .match .rest)))
@@ -171,8 +172,8 @@ formula-of-spec =
     fineness-scaled-pressure-drag-requires
     ellipsoid-subsonic-pressure-drag-requires
     stagnation-ratio-requires
-    parameter-of-requires
-    parameter-of-requires-2
+    parameter-requires
+    parameter-requires-2
     returns
     returns-2
     returns-3

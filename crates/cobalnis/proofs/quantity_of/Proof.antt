@@ -1,5 +1,5 @@
 -- `cobalnis::quantity_of` meets its contract: 22 is what is left.
-use Rattle.cobalnis.proofs.Tables.{above}
+use Rattle.elementary.proofs.Cases.{above}
 use native.Mathlib.Omega.{arith}
 use borrow.Author.Needs.{needs}
 use Rattle.cobalnis.proofs.quantity_of.Statement.{statement}

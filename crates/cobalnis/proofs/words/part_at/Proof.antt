@@ -5,11 +5,11 @@ use borrow.Author.Needs.{needs}
 use Rattle.cobalnis.proofs.words.part_at.Statement.{statement}
 use Rattle.cobalnis.proofs.words.part_at.Tie as tie
 
-mul-shape-of : tie.Need-mul-shape-of
-mul-shape-of c = search needs
+mul-of-number : tie.Need-mul-of-number
+mul-of-number c = search needs
 
-element-copy-out-shape-of : tie.Need-element-copy-out-shape-of
-element-copy-out-shape-of c = search needs
+element-copy-out-of-number : tie.Need-element-copy-out-of-number
+element-copy-out-of-number c = search needs
 
 add-from-bits : tie.Need-add-from-bits
 add-from-bits c = search needs
@@ -23,8 +23,8 @@ element-copy-out-from-bits c = search needs
 from-bits-requires : tie.Need-from-bits-requires
 from-bits-requires c κs = search needs
 
-shape-of-requires : tie.Need-shape-of-requires
-shape-of-requires c κs = search needs
+of-number-requires : tie.Need-of-number-requires
+of-number-requires c κs = search needs
 
 add-from-bits-2 : tie.Need-add-from-bits-2
 add-from-bits-2 c = search needs
@@ -81,13 +81,13 @@ pub part-at-spec : {M : Type 1} → statement M
 part-at-spec =
     tie.close
     (tie.spec
-    mul-shape-of
-    element-copy-out-shape-of
+    mul-of-number
+    element-copy-out-of-number
     add-from-bits
     mul-from-bits
     element-copy-out-from-bits
     from-bits-requires
-    shape-of-requires
+    of-number-requires
     add-from-bits-2
     mul-from-bits-2
     element-copy-out-from-bits-2

@@ -3,8 +3,8 @@ use borrow.Author.Needs.{needs}
 use Rattle.cobalnis.proofs.words.part_of.Statement.{statement}
 use Rattle.cobalnis.proofs.words.part_of.Tie as tie
 
-element-copy-out-shape-of : tie.Need-element-copy-out-shape-of
-element-copy-out-shape-of c = search needs
+element-copy-out-of-number : tie.Need-element-copy-out-of-number
+element-copy-out-of-number c = search needs
 
 element-copy-out-from-bits : tie.Need-element-copy-out-from-bits
 element-copy-out-from-bits c = search needs
@@ -12,8 +12,8 @@ element-copy-out-from-bits c = search needs
 from-bits-requires : tie.Need-from-bits-requires
 from-bits-requires c κs = search needs
 
-shape-of-requires : tie.Need-shape-of-requires
-shape-of-requires c κs = search needs
+of-number-requires : tie.Need-of-number-requires
+of-number-requires c κs = search needs
 
 element-copy-out-from-bits-2 : tie.Need-element-copy-out-from-bits-2
 element-copy-out-from-bits-2 c = search needs
@@ -46,10 +46,10 @@ pub part-of-spec : {M : Type 1} → statement M
 part-of-spec =
     tie.close
     (tie.spec
-    element-copy-out-shape-of
+    element-copy-out-of-number
     element-copy-out-from-bits
     from-bits-requires
-    shape-of-requires
+    of-number-requires
     element-copy-out-from-bits-2
     from-bits-requires-2
     element-copy-out-from-bits-3

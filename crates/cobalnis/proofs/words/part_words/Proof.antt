@@ -9,8 +9,8 @@ number-requires c κs = search needs
 cast-t4 : tie.Need-cast-t4
 cast-t4 c = search needs
 
-parameter-of-requires : tie.Need-parameter-of-requires
-parameter-of-requires c κs = search needs
+parameter-requires : tie.Need-parameter-requires
+parameter-requires c κs = search needs
 
 to-bits-requires : tie.Need-to-bits-requires
 to-bits-requires c κs = search needs
@@ -36,7 +36,7 @@ part-words-spec =
     (tie.spec
     number-requires
     cast-t4
-    parameter-of-requires
+    parameter-requires
     to-bits-requires
     to-bits-requires-2
     to-bits-requires-3

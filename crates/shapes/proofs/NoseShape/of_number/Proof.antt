@@ -1,8 +1,7 @@
--- `cobalnis::words::shape_of` meets its contract.
+-- `NoseShape::of_number` meets its contract: each number is its case, and the last arm has none of them.
 use borrow.Author.Tests.{ne-eqb}
-use borrow.Author.Tests.{ne-eqb}
-use Rattle.cobalnis.proofs.words.shape_of.Statement.{statement}
-use Rattle.cobalnis.proofs.words.shape_of.Tie as tie
+use Rattle.shapes.proofs.NoseShape.of_number.Statement.{statement}
+use Rattle.shapes.proofs.NoseShape.of_number.Tie as tie
 
 returns : tie.Need-returns
 returns c = simp (c .match .keys1)
@@ -22,5 +21,5 @@ returns-5 c = simp (c .match .keys5)
 returns-6 : tie.Need-returns-6
 returns-6 c = let n = c .match .rest in simp (ne-eqb _ _ (n .0 .0 .0 .0 .1), ne-eqb _ _ (n .0 .0 .0 .1), ne-eqb _ _ (n .0 .0 .1), ne-eqb _ _ (n .0 .1), ne-eqb _ _ (n .1))
 
-pub shape-of-spec : {M : Type 1} → statement M
-shape-of-spec = tie.close (tie.spec returns returns-2 returns-3 returns-4 returns-5 returns-6)
+pub of-number-spec : {M : Type 1} → statement M
+of-number-spec = tie.close (tie.spec returns returns-2 returns-3 returns-4 returns-5 returns-6)
