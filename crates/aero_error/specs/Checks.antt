@@ -1,17 +1,20 @@
--- A range test, then refusal 1 with a code and the value (error.rs), and how a formula goes on after a test or after another formula: Rust's `?`.
+-- A range test, then refusal 1 with a code and the value (error.rs), tests one after another, and how a formula goes on after a test or after
+-- another formula: Rust's `?`.
 use mathlib.Core.Bool.{Bool, true, false, _&&_, _||_}
+use Prim.Native.Nat.{ℕ, zero, suc}
 use lib.Ieee.{Float}
 use lib.Ieee.Scale.{finite}
 use Rattle.elementary.specs.Arithmetic.{_≺_, _≼_, _≈_, bits}
 use Rattle.aero_error.specs.declared.Quantity.{Quantity}
 use Rattle.aero_error.specs.declared.AeroError.{AeroError}
-use Rattle.aero_error.specs.declared.AeroError.the-variants.{Domain}
+use Rattle.aero_error.specs.declared.AeroError.the-variants.{Domain, Broken}
+use Rattle.aero_error.specs.declared.Rule.{Rule}
 use Rattle.aero_error.specs.declared.Check.{Check}
 use Rattle.aero_error.specs.declared.Check.the-variants.{Passed, Failed}
 use Rattle.aero_error.specs.declared.Coefficient.{Coefficient}
 use Rattle.aero_error.specs.declared.Coefficient.the-variants.{Value, Refused}
 
-infixr 20 _and-then_ _for-value_
+infixr 20 _then_ _and-then_ _for-value_
 -- the one form of a range test: it passes, or it is refusal 1 with what was tested
 abbrev pub required : Bool → Quantity → Float → Check
 required true what value = Passed
@@ -24,6 +27,21 @@ dimension value allow-zero = finite value && (bits 0 ≺ value || (allow-zero &&
 -- `(low..=high).contains(&x)`
 unfoldable pub between : Float → Float → Float → Bool
 between low x high = low ≼ x && x ≼ high
+
+-- one test after another: the first that fails is the answer
+abbrev pub _then_ : Check → Check → Check
+Passed then next = next
+Failed refusal then next = Failed refusal
+
+-- a rule's refusal where it is broken
+abbrev pub unless : Bool → Rule → Check
+unless true rule = Failed (Broken rule)
+unless false rule = Passed
+
+-- tests 0, 1, .. one after another, n of them
+unfoldable pub upTo : ℕ → (ℕ → Check) → Check
+upTo zero test = Passed
+upTo (suc n) test = upTo n test then test n
 
 -- `check?; answer`
 abbrev pub _and-then_ : Check → Coefficient → Coefficient

@@ -1,9 +1,9 @@
-// The refusals of every layer, with document 01's numbers for them, and the tests that give refusal 1 (error.rs). A test answers
-// `Check`, a formula `Coefficient`; both carry the refusal itself, so that a caller hands it on unread.
+// The refusals of every layer, with document 01's numbers for them, the tests that give refusal 1 (error.rs), and tests one after
+// another. A test answers `Check`, a formula `Coefficient`; both carry the refusal itself, so that a caller hands it on unread.
 ghost use mathlib.Core.Path.{_≡_};
 ghost use lib.Ieee.Scale.{finite};
-ghost use Rattle.aero_error.specs.Refusals.{codeOfQuantity, numberOf, codeOf, valueOf};
-ghost use Rattle.aero_error.specs.Checks.{required, dimension, between};
+ghost use Rattle.aero_error.specs.Refusals.{codeOfQuantity, numberOfRule, numberOf, codeOf, valueOf};
+ghost use Rattle.aero_error.specs.Checks.{required, dimension, between, _then_, unless};
 
 // What a refused value is: the Rust's `what`, in the order of document 01's codes 1 to 22.
 pub enum Quantity {
@@ -31,9 +31,8 @@ pub enum Quantity {
     BoattailFore,
 }
 
-// A refusal: a case for each row of document 01's table, in the order of its numbers 1 to 11.
-pub enum AeroError {
-    Domain { what: Quantity, value: f64 },
+// A rule that a refusal other than 1 names, in the order of the table's numbers 2 to 11.
+pub enum Rule {
     OgiveRadiusRatio,
     HaackAboveThird,
     CardEnds,
@@ -46,7 +45,13 @@ pub enum AeroError {
     OutsideInterval,
 }
 
-// The answer of a test.
+// A refusal: a value outside its domain, which is refusal 1, or a broken rule.
+pub enum AeroError {
+    Domain { what: Quantity, value: f64 },
+    Broken(Rule),
+}
+
+// The answer of a test, and of a call on a sheet: it passed, or its refusal.
 pub enum Check {
     Passed,
     Failed(AeroError),
@@ -90,6 +95,26 @@ impl Quantity {
     }
 }
 
+impl Rule {
+    // The table's number, 2 to 11.
+    pub fn number(self) -> u8
+        ensures { λ r. ⌜ r ≡ numberOfRule self ⌝ }
+    {
+        match self {
+            Rule::OgiveRadiusRatio => 2,
+            Rule::HaackAboveThird => 3,
+            Rule::CardEnds => 4,
+            Rule::ReservedBit => 5,
+            Rule::FieldMissing => 6,
+            Rule::TooManyColumns => 7,
+            Rule::NoSuchPlace => 8,
+            Rule::DesignFull => 9,
+            Rule::TooFewCells => 10,
+            Rule::OutsideInterval => 11,
+        }
+    }
+}
+
 impl AeroError {
     // The refusal's number, 1 to 11.
     pub fn number(self) -> u8
@@ -97,16 +122,7 @@ impl AeroError {
     {
         match self {
             AeroError::Domain { what: _, value: _ } => 1,
-            AeroError::OgiveRadiusRatio => 2,
-            AeroError::HaackAboveThird => 3,
-            AeroError::CardEnds => 4,
-            AeroError::ReservedBit => 5,
-            AeroError::FieldMissing => 6,
-            AeroError::TooManyColumns => 7,
-            AeroError::NoSuchPlace => 8,
-            AeroError::DesignFull => 9,
-            AeroError::TooFewCells => 10,
-            AeroError::OutsideInterval => 11,
+            AeroError::Broken(rule) => rule.number(),
         }
     }
 
@@ -116,16 +132,7 @@ impl AeroError {
     {
         match self {
             AeroError::Domain { what, value: _ } => what.code(),
-            AeroError::OgiveRadiusRatio => 0,
-            AeroError::HaackAboveThird => 0,
-            AeroError::CardEnds => 0,
-            AeroError::ReservedBit => 0,
-            AeroError::FieldMissing => 0,
-            AeroError::TooManyColumns => 0,
-            AeroError::NoSuchPlace => 0,
-            AeroError::DesignFull => 0,
-            AeroError::TooFewCells => 0,
-            AeroError::OutsideInterval => 0,
+            AeroError::Broken(_) => 0,
         }
     }
 
@@ -135,16 +142,7 @@ impl AeroError {
     {
         match self {
             AeroError::Domain { what: _, value } => value,
-            AeroError::OgiveRadiusRatio => 0.0,
-            AeroError::HaackAboveThird => 0.0,
-            AeroError::CardEnds => 0.0,
-            AeroError::ReservedBit => 0.0,
-            AeroError::FieldMissing => 0.0,
-            AeroError::TooManyColumns => 0.0,
-            AeroError::NoSuchPlace => 0.0,
-            AeroError::DesignFull => 0.0,
-            AeroError::TooFewCells => 0.0,
-            AeroError::OutsideInterval => 0.0,
+            AeroError::Broken(_) => 0.0,
         }
     }
 }
@@ -171,6 +169,27 @@ pub fn require(ok: bool, what: Quantity, value: f64) -> Check
         Check::Passed
     } else {
         Check::Failed(AeroError::Domain { what, value })
+    }
+}
+
+// One test after another: the first that fails is the answer.
+pub fn then(first: Check, next: Check) -> Check
+    ensures { λ r. ⌜ r ≡ (first then next) ⌝ }
+{
+    match first {
+        Check::Passed => next,
+        Check::Failed(refusal) => Check::Failed(refusal),
+    }
+}
+
+// The rule's refusal where it is broken.
+pub fn unless(broken: bool, rule: Rule) -> Check
+    ensures { λ r. ⌜ r ≡ unless broken rule ⌝ }
+{
+    if broken {
+        Check::Failed(AeroError::Broken(rule))
+    } else {
+        Check::Passed
     }
 }
 

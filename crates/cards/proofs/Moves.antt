@@ -9,10 +9,11 @@ use lib.ListN.{length, getD}
 use lib.Dec.{ltb}
 use lib.Ieee.{Float, ofBits, binary64}
 use borrow.Author.Tests.{ltb-false}
-use Rattle.aero_error.specs.declared.AeroError.the-variants.{CardEnds, ReservedBit, FieldMissing, TooManyColumns}
+use Rattle.aero_error.specs.declared.AeroError.the-variants.{Broken}
+use Rattle.aero_error.specs.declared.Rule.the-variants.{CardEnds, ReservedBit, FieldMissing, TooManyColumns}
 use Rattle.shapes.specs.declared.NoseShape.{NoseShape}
 use Rattle.drag_sheet.specs.declared.Part.{Part}
-use Rattle.drag_sheet.specs.declared.Outcome.the-variants.{Accepted}
+use Rattle.aero_error.specs.declared.Check.the-variants.{Passed}
 use Rattle.cards.specs.declared.ByteRead.{ByteRead}
 use Rattle.cards.specs.declared.ByteRead.the-variants.{Byte, Refused as NoByte}
 use Rattle.cards.specs.declared.NumberRead.{NumberRead}
@@ -34,7 +35,7 @@ Reach at k next = (at ≤ next) × (next ≤ at + k)
 pub byte-stands : (s : List ℕ) (at b next : ℕ) → byteAt true s at ≡ Byte b next → next ≡ at + 1
 byte-stands s at b next = by-test (has s at 1)
   where
-    by-test : (t : Bool) → cond t (Byte (getD s at 0) (at + 1)) (NoByte CardEnds) ≡ Byte b next → next ≡ at + 1
+    by-test : (t : Bool) → cond t (Byte (getD s at 0) (at + 1)) (NoByte (Broken CardEnds)) ≡ Byte b next → next ≡ at + 1
     by-test true e = cc
     by-test false e = let z : _≡_ {A = ℕ} 0 1 = cc in absurd (omega arith)
 
@@ -46,7 +47,7 @@ pub number-reach : (stands : Bool) (s : List ℕ) (at : ℕ) (x : Float) (next :
 number-reach false s at x next e = let h : next ≡ at = cc in omega arith
 number-reach true s at x next e = by-test (has s at 8) e
   where
-    by-test : (t : Bool) → cond t (Number (ofBits binary64 (eightBytes s at)) (at + 8)) (NoNumber CardEnds) ≡ Number x next → Reach at 8 next
+    by-test : (t : Bool) → cond t (Number (ofBits binary64 (eightBytes s at)) (at + 8)) (NoNumber (Broken CardEnds)) ≡ Number x next → Reach at 8 next
     by-test true e = let h : next ≡ at + 8 = cc in omega arith
     by-test false e = let z : _≡_ {A = ℕ} 0 1 = cc in absurd (omega arith)
 
@@ -70,7 +71,7 @@ parameter-reach stands n s at shape next = by-test (parameterRight stands n)
     read (Number x m) i e = let k = number-reach stands s at x m i in let z : next ≡ m = cc in omega arith
     read (NoNumber r) i e = let z : _≡_ {A = ℕ} 0 1 = cc in absurd (omega arith)
 
-    by-test : (t : Bool) → cond t (onNumber (numberAt stands s at) NoShape (λ x m. Shape (shapeOf n x) m)) (NoShape FieldMissing) ≡ Shape shape next → Reach at 8 next
+    by-test : (t : Bool) → cond t (onNumber (numberAt stands s at) NoShape (λ x m. Shape (shapeOf n x) m)) (NoShape (Broken FieldMissing)) ≡ Shape shape next → Reach at 8 next
     by-test true e = read (numberAt stands s at) refl e
     by-test false e = let z : _≡_ {A = ℕ} 0 1 = cc in absurd (omega arith)
 
@@ -78,11 +79,11 @@ pub shape-reach : (map : ℕ) (s : List ℕ) (at : ℕ) (shape : NoseShape) (nex
 unfolding shapeAt
 shape-reach map s at shape next = read (byteAt (bit 0 map) s at) refl
   where
-    by-test : (n m : ℕ) → Reach at 1 m → (t : Bool) → cond t (NoShape ReservedBit) (parameterAt (bit 1 map) n s m) ≡ Shape shape next → Reach at 9 next
+    by-test : (n m : ℕ) → Reach at 1 m → (t : Bool) → cond t (NoShape (Broken ReservedBit)) (parameterAt (bit 1 map) n s m) ≡ Shape shape next → Reach at 9 next
     by-test n m h true e = let z : _≡_ {A = ℕ} 0 1 = cc in absurd (omega arith)
     by-test n m h false e = let k = parameter-reach (bit 1 map) n s m shape next e in omega arith
 
-    read : (r : ByteRead) → byteAt (bit 0 map) s at ≡ r → onByte r NoShape (λ n m. cond (ltb 5 n) (NoShape ReservedBit) (parameterAt (bit 1 map) n s m)) ≡ Shape shape next → Reach at 9 next
+    read : (r : ByteRead) → byteAt (bit 0 map) s at ≡ r → onByte r NoShape (λ n m. cond (ltb 5 n) (NoShape (Broken ReservedBit)) (parameterAt (bit 1 map) n s m)) ≡ Shape shape next → Reach at 9 next
     read (Byte n m) i e = by-test n m (byte-reach (bit 0 map) s at n m i) (ltb 5 n) e
     read (NoByte r) i e = let z : _≡_ {A = ℕ} 0 1 = cc in absurd (omega arith)
 
@@ -109,7 +110,7 @@ fields-reach map s at part next = by-test (ltb 63 map)
     read (Shape shape m) i e = let h = shape-reach map s at shape m i in let k = rest-reach shape map s m part next e in omega arith
     read (NoShape r) i e = let z : _≡_ {A = ℕ} 0 1 = cc in absurd (omega arith)
 
-    by-test : (t : Bool) → cond t (NoPart ReservedBit) (onShape (shapeAt map s at) (λ shape m. restAt shape map s m)) ≡ Read part next → Reach at 41 next
+    by-test : (t : Bool) → cond t (NoPart (Broken ReservedBit)) (onShape (shapeAt map s at) (λ shape m. restAt shape map s m)) ≡ Read part next → Reach at 41 next
     by-test true e = let z : _≡_ {A = ℕ} 0 1 = cc in absurd (omega arith)
     by-test false e = read (shapeAt map s at) refl e
 
@@ -129,13 +130,13 @@ unfolding columnsAt
 columns-reach D roughness B n s at = by-count (ltb 32 n) refl
   where
     made : SettingsRead
-    made = record { outcome = Accepted; settings = record { «reference_diameter» = D; roughness = roughness; «body_fineness» = B; count = n; machs = slots n (numbersAt n s at); reynolds = slots n (numbersAt n s (at + 8)) }; next = at + 16 * n }
+    made = record { outcome = Passed; settings = record { «reference_diameter» = D; roughness = roughness; «body_fineness» = B; count = n; machs = slots n (numbersAt n s at); reynolds = slots n (numbersAt n s (at + 8)) }; next = at + 16 * n }
 
-    by-end : n ≤ 32 → (t : Bool) → (cond t made (noSettings CardEnds)) .next ≤ at + 512
+    by-end : n ≤ 32 → (t : Bool) → (cond t made (noSettings (Broken CardEnds))) .next ≤ at + 512
     by-end h true = omega arith
     by-end h false = omega arith
 
-    by-count : (t : Bool) → ltb 32 n ≡ t → (cond t (noSettings TooManyColumns) (cond (has s at (16 * n)) made (noSettings CardEnds))) .next ≤ at + 512
+    by-count : (t : Bool) → ltb 32 n ≡ t → (cond t (noSettings (Broken TooManyColumns)) (cond (has s at (16 * n)) made (noSettings (Broken CardEnds)))) .next ≤ at + 512
     by-count true e = omega arith
     by-count false e = by-end (ltb-false 32 n e) (has s at (16 * n))
 
@@ -162,15 +163,15 @@ settings-fields-reach map s at = reserved (ltb 15 map)
     read (Pair D roughness m) i = let h = pair-reach true (bit 1 map) s at D roughness m i in let k = fineness-reach map D roughness s m in omega (arith, h, k)
     read (NoPair e) i = omega arith
 
-    second : (t : Bool) → (cond t (noSettings FieldMissing) fields) .next ≤ at + 537
+    second : (t : Bool) → (cond t (noSettings (Broken FieldMissing)) fields) .next ≤ at + 537
     second true = omega arith
     second false = read (pairAt true (bit 1 map) s at) refl
 
-    first : (t : Bool) → (cond t (noSettings FieldMissing) (cond (not (bit 2 map)) (noSettings FieldMissing) fields)) .next ≤ at + 537
+    first : (t : Bool) → (cond t (noSettings (Broken FieldMissing)) (cond (not (bit 2 map)) (noSettings (Broken FieldMissing)) fields)) .next ≤ at + 537
     first true = omega arith
     first false = second (not (bit 2 map))
 
-    reserved : (t : Bool) → (cond t (noSettings ReservedBit) (cond (not (bit 0 map)) (noSettings FieldMissing) (cond (not (bit 2 map)) (noSettings FieldMissing) fields))) .next ≤ at + 537
+    reserved : (t : Bool) → (cond t (noSettings (Broken ReservedBit)) (cond (not (bit 0 map)) (noSettings (Broken FieldMissing)) (cond (not (bit 2 map)) (noSettings (Broken FieldMissing)) fields))) .next ≤ at + 537
     reserved true = omega arith
     reserved false = first (not (bit 0 map))
 

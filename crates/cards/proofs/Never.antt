@@ -5,12 +5,13 @@ use Prim.Native.Nat.{ℕ, _*_, _≤_}
 use native.Mathlib.Omega.{arith}
 use lib.Dec.{leb, ltb}
 use borrow.Author.Tests.{le-ltb}
-use Rattle.aero_error.specs.declared.AeroError.the-variants.{DesignFull, TooFewCells}
+use Rattle.aero_error.specs.declared.Rule.the-variants.{DesignFull, TooFewCells}
 use Rattle.aero_error.specs.declared.Check.the-variants.{Passed}
 use Rattle.drag_sheet.specs.declared.Part.{Part}
 use Rattle.drag_sheet.specs.Layout.{part-rows, all-rows}
 use Rattle.drag_sheet.specs.declared.Sheet.{Sheet}
-use Rattle.drag_sheet.specs.Tests.{_then_, unless, partTest}
+use Rattle.aero_error.specs.Checks.{_then_, unless}
+use Rattle.drag_sheet.specs.Tests.{partTest}
 use Rattle.drag_sheet.specs.Calls.{argumentsTest}
 use Rattle.cards.specs.Run.{insertLast}
 

@@ -17,9 +17,10 @@ use Rattle.cards.specs.declared.NumberRead.{NumberRead}
 use Rattle.cards.specs.declared.NumberRead.the-variants.{Number, Refused as NoNumber}
 use Rattle.cards.specs.declared.PairRead.{PairRead}
 use Rattle.cards.specs.declared.PairRead.the-variants.{Pair, Refused as NoPair}
-use Rattle.aero_error.specs.declared.AeroError.the-variants.{CardEnds, ReservedBit, FieldMissing, TooManyColumns}
+use Rattle.aero_error.specs.declared.AeroError.the-variants.{Broken}
+use Rattle.aero_error.specs.declared.Rule.the-variants.{CardEnds, ReservedBit, FieldMissing, TooManyColumns}
 use Rattle.shapes.specs.declared.NoseShape.{NoseShape}
-use Rattle.drag_sheet.specs.declared.Outcome.the-variants.{Accepted, Refused}
+use Rattle.aero_error.specs.declared.Check.the-variants.{Passed, Failed}
 use Rattle.cards.specs.declared.ShapeRead.{ShapeRead}
 use Rattle.cards.specs.declared.ShapeRead.the-variants.{Shape, Refused as NoShape}
 use Rattle.cards.specs.declared.PartRead.{PartRead}
@@ -31,7 +32,7 @@ use Rattle.drag_sheet.specs.Layout.{written}
 use Rattle.drag_sheet.specs.Build.{build}
 use Rattle.drag_sheet.specs.Tests.{settingsTest}
 use Rattle.drag_sheet.specs.Calls.{opened, emptySlots, madeCells}
-use Rattle.cards.specs.Run.{Ran, partCards, onOutcome, onCheck, stoppedAt, streamFrom, streamOf}
+use Rattle.cards.specs.Run.{Ran, partCards, onCheck, stoppedAt, streamFrom, streamOf}
 use Rattle.cards.proofs.Stream.{sheetWith, cellsWith, same-card, card-first, accepted-part}
 use Rattle.cards.specs.Fields.{bit, has, fourBytes, eightBytes, byteAt, numberAt, pairAt, numbersAt, onByte, onNumber, onPair}
 use Rattle.cards.proofs.Moves.{byte-reach, byte-stands, number-reach, pair-reach, shape-reach, part-reach, settings-reach}
@@ -125,7 +126,7 @@ module _ (s : List ℕ) (N : ℕ) where
   same-shape map at h =
       on-byte NoShape (byteAt (bit 0 map) s at) (byteAt (bit 0 map) (take N s) at) _ _ (same-byte (bit 0 map) at (omega arith)) λ n next i.
       let k = byte-reach (bit 0 map) s at n next i in
-      ap (λ (r : ShapeRead). cond (ltb 5 n) (NoShape ReservedBit) r) (same-parameter (bit 1 map) n next (omega arith))
+      ap (λ (r : ShapeRead). cond (ltb 5 n) (NoShape (Broken ReservedBit)) r) (same-parameter (bit 1 map) n next (omega arith))
 
   same-rest : (shape : NoseShape) (map at : ℕ) → at + 32 ≤ N → restAt shape map s at ≡ restAt shape map (take N s) at
   unfolding restAt
@@ -136,7 +137,7 @@ module _ (s : List ℕ) (N : ℕ) where
 
   same-fields : (map at : ℕ) → at + 41 ≤ N → partFields map s at ≡ partFields map (take N s) at
   unfolding partFields
-  same-fields map at h = ap (λ (r : PartRead). cond (ltb 63 map) (NoPart ReservedBit) r) (by-cases (shapeAt map s at) refl ∙ ap (λ (r : ShapeRead). onShape r (λ shape next. restAt shape map (take N s) next)) (same-shape map at (omega arith)))
+  same-fields map at h = ap (λ (r : PartRead). cond (ltb 63 map) (NoPart (Broken ReservedBit)) r) (by-cases (shapeAt map s at) refl ∙ ap (λ (r : ShapeRead). onShape r (λ shape next. restAt shape map (take N s) next)) (same-shape map at (omega arith)))
     where
       by-cases : (r : ShapeRead) → shapeAt map s at ≡ r → onShape r (λ shape next. restAt shape map s next) ≡ onShape r (λ shape next. restAt shape map (take N s) next)
       by-cases (Shape shape next) i = let k = shape-reach map s at shape next i in same-rest shape map next (omega arith)
@@ -156,9 +157,9 @@ module _ (s : List ℕ) (N : ℕ) where
   same-columns D roughness B n at h = by-test (ltb 32 n) refl
     where
       made : List ℕ → SettingsRead
-      made t = cond (has t at (16 * n)) (record { outcome = Accepted; settings = record { «reference_diameter» = D; roughness = roughness; «body_fineness» = B; count = n; machs = slots n (numbersAt n t at); reynolds = slots n (numbersAt n t (at + 8)) }; next = at + 16 * n }) (noSettings CardEnds)
+      made t = cond (has t at (16 * n)) (record { outcome = Passed; settings = record { «reference_diameter» = D; roughness = roughness; «body_fineness» = B; count = n; machs = slots n (numbersAt n t at); reynolds = slots n (numbersAt n t (at + 8)) }; next = at + 16 * n }) (noSettings (Broken CardEnds))
 
-      by-test : (t : Bool) → ltb 32 n ≡ t → cond t (noSettings TooManyColumns) (made s) ≡ cond t (noSettings TooManyColumns) (made (take N s))
+      by-test : (t : Bool) → ltb 32 n ≡ t → cond t (noSettings (Broken TooManyColumns)) (made s) ≡ cond t (noSettings (Broken TooManyColumns)) (made (take N s))
       by-test true e = refl
       by-test false e =
           let k = ltb-false 32 n e in
@@ -176,7 +177,7 @@ module _ (s : List ℕ) (N : ℕ) where
   same-settings-fields : (map at : ℕ) → at + 537 ≤ N → settingsFields map s at ≡ settingsFields map (take N s) at
   unfolding settingsFields
   same-settings-fields map at h =
-      ap (λ (r : SettingsRead). cond (ltb 15 map) (noSettings ReservedBit) (cond (not (bit 0 map)) (noSettings FieldMissing) (cond (not (bit 2 map)) (noSettings FieldMissing) r)))
+      ap (λ (r : SettingsRead). cond (ltb 15 map) (noSettings (Broken ReservedBit)) (cond (not (bit 0 map)) (noSettings (Broken FieldMissing)) (cond (not (bit 2 map)) (noSettings (Broken FieldMissing)) r)))
       (on-pair noSettings (pairAt true (bit 1 map) s at) (pairAt true (bit 1 map) (take N s) at) _ _ (same-pair true (bit 1 map) at (omega arith)) λ D roughness next i.
       let k = pair-reach true (bit 1 map) s at D roughness next i in
       same-fineness map D roughness next (omega arith))
@@ -228,7 +229,7 @@ module _ (s : List ℕ) where
   same-from : (card : SettingsRead) (xs : List Float) → card .next ≤ 538 → streamFrom s card xs ≡ streamFrom (take most-bytes s) card xs
   same-from card xs h =
       let sheet = opened (card .settings) emptySlots in
-      ap (λ (r : Ran). onOutcome (card .outcome) (λ e. stoppedAt 0 (Refused e) sheet xs) (onCheck (settingsTest (card .settings) (length xs)) (λ e. stoppedAt 0 (Refused e) sheet xs) r))
+      ap (λ (r : Ran). onCheck (card .outcome) (λ e. stoppedAt 0 (Failed e) sheet xs) (onCheck (settingsTest (card .settings) (length xs)) (λ e. stoppedAt 0 (Failed e) sheet xs) r))
       (same-cards 16 (length s) (length (take most-bytes s)) (card .next) sheet (written 0 (madeCells (build (card .settings) [])) xs) (omega arith) (omega arith) (omega arith) (omega arith))
 
   -- the answer for any stream is the answer for its first 1252 bytes

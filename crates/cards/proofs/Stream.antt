@@ -13,15 +13,14 @@ use Rattle.aero_error.specs.declared.AeroError.{AeroError}
 use Rattle.aero_error.specs.declared.Check.{Check}
 use Rattle.aero_error.specs.declared.Check.the-variants.{Passed, Failed}
 use Rattle.drag_sheet.specs.declared.Part.{Part}
-use Rattle.drag_sheet.specs.declared.Outcome.{Outcome}
-use Rattle.drag_sheet.specs.declared.Outcome.the-variants.{Accepted, Refused}
 use Rattle.drag_sheet.specs.declared.Settings.{Settings}
 use Rattle.drag_sheet.specs.Layout.{written}
 use Rattle.drag_sheet.specs.Build.{build, partsOf}
 use Rattle.drag_sheet.specs.declared.Sheet.{Sheet}
 use Rattle.drag_sheet.specs.declared.Answer.{Answer}
 use Rattle.drag_sheet.specs.Calls.{Call, sheetDecision, sheetAfter, cellsAfter, answered, chosen, Called, Opened, opened, emptySlots, madeCells, decision, argumentsTest, rowsTest}
-use Rattle.drag_sheet.specs.Tests.{_then_, sheetTest, settingsTest}
+use Rattle.aero_error.specs.Checks.{_then_}
+use Rattle.drag_sheet.specs.Tests.{sheetTest, settingsTest}
 use Rattle.drag_sheet.proofs.Answers.{then-passed, insert-facts, settings-facts}
 use Rattle.drag_sheet.proofs.Edits.{Verdict, accepted, refusal, verdict}
 use Rattle.cards.specs.declared.SettingsRead.{SettingsRead}
@@ -53,7 +52,7 @@ module _ (s t : List ℕ) (at : ℕ) (sheet : Sheet) (xs : List Float) (go go' :
   same-card l p h = ended (ltb at (length s)) refl l
     where
       refuse : AeroError → Ran
-      refuse e = stopped (Refused e) sheet xs
+      refuse e = stopped (Failed e) sheet xs
 
       tail : Next → Part → ℕ → Ran
       tail k part next = onCheck (sheetDecision (insertLast sheet part) sheet (length xs)) refuse (k next (sheetWith sheet part) (cellsWith sheet part xs))
@@ -68,7 +67,7 @@ module _ (s t : List ℕ) (at : ℕ) (sheet : Sheet) (xs : List Float) (go go' :
       read i (NoPart e) q = refl
 
       ended : (b : Bool) → ltb at (length s) ≡ b → b ≡ ltb at (length t)
-          → cond b (onPart (partAt s at) refuse (tail go)) (stopped Accepted sheet xs) ≡ cond (ltb at (length t)) (onPart (partAt t at) refuse (tail go')) (stopped Accepted sheet xs)
+          → cond b (onPart (partAt s at) refuse (tail go)) (stopped Passed sheet xs) ≡ cond (ltb at (length t)) (onPart (partAt t at) refuse (tail go')) (stopped Passed sheet xs)
       ended true e f =
           let i = ltb-true at (length s) e in
           rw (← f) (read i (partAt s at) refl ∙ ap (λ (r : PartRead). onPart r refuse (tail go')) (p i))
@@ -105,16 +104,16 @@ next-card s at sheet xs =
 
 module _ (s : List ℕ) (at : ℕ) (sheet : Sheet) (xs : List Float) where
   -- the bytes end
-  pub cards-end : length s ≤ at → allPartCards s at sheet xs ≡ stopped Accepted sheet xs
+  pub cards-end : length s ≤ at → allPartCards s at sheet xs ≡ stopped Passed sheet xs
   cards-end h = next-card s at sheet xs ∙ rw (le-ltb at (length s) h)
 
   -- the card is refused
-  pub card-refused : (e : AeroError) → at < length s → partAt s at ≡ NoPart e → allPartCards s at sheet xs ≡ stopped (Refused e) sheet xs
+  pub card-refused : (e : AeroError) → at < length s → partAt s at ≡ NoPart e → allPartCards s at sheet xs ≡ stopped (Failed e) sheet xs
   card-refused e h p = next-card s at sheet xs ∙ rw (lt-ltb at (length s) h, p)
 
   module _ (part : Part) (next : ℕ) (h : at < length s) (p : partAt s at ≡ Read part next) where
     -- the part is refused
-    pub part-refused : (e : AeroError) → sheetDecision (insertLast sheet part) sheet (length xs) ≡ Failed e → allPartCards s at sheet xs ≡ stopped (Refused e) sheet xs
+    pub part-refused : (e : AeroError) → sheetDecision (insertLast sheet part) sheet (length xs) ≡ Failed e → allPartCards s at sheet xs ≡ stopped (Failed e) sheet xs
     part-refused e d = next-card s at sheet xs ∙ rw (lt-ltb at (length s) h, p, d)
 
     -- the part is accepted
@@ -140,27 +139,27 @@ accepted-part sheet lent part e =
 -- ---- what a call's contract says, by its outcome
 
 module _ (call : Call) (sheet : Sheet) (xs : List Float) (r : Answer) (ys : List Float) (c : Called call sheet xs r ys) where
-  pub refused-call : (e : AeroError) → r .outcome ≡ Refused e → (sheetDecision call sheet (length xs) ≡ Failed e) × (r .sheet ≡ sheet) × (ys ≡ xs)
+  pub refused-call : (e : AeroError) → r .outcome ≡ Failed e → (sheetDecision call sheet (length xs) ≡ Failed e) × (r .sheet ≡ sheet) × (ys ≡ xs)
   refused-call e o = by (verdict call sheet xs r ys c)
     where
       by : Verdict call sheet xs r ys → (sheetDecision call sheet (length xs) ≡ Failed e) × (r .sheet ≡ sheet) × (ys ≡ xs)
-      by (accepted p a l) = let z : Accepted ≡ Refused e = sym (ap (λ (x : Answer). x .outcome) a) ∙ o in let y : _≡_ {A = ℕ} 0 1 = cc in absurd (omega arith)
+      by (accepted p a l) = let z : Passed ≡ Failed e = sym (ap (λ (x : Answer). x .outcome) a) ∙ o in let y : _≡_ {A = ℕ} 0 1 = cc in absurd (omega arith)
       by (refusal f p a l) =
-          let z : Refused f ≡ Refused e = sym (ap (λ (x : Answer). x .outcome) a) ∙ o in
+          let z : Failed f ≡ Failed e = sym (ap (λ (x : Answer). x .outcome) a) ∙ o in
           let g : Failed f ≡ Failed e = cc in
           (p ∙ g, ap (λ (x : Answer). x .sheet) a, l)
 
-  pub accepted-call : r .outcome ≡ Accepted → (sheetDecision call sheet (length xs) ≡ Passed) × (r .sheet ≡ sheetAfter call sheet) × (ys ≡ cellsAfter call (sheet .settings) (partsOf (sheet .design)) xs)
+  pub accepted-call : r .outcome ≡ Passed → (sheetDecision call sheet (length xs) ≡ Passed) × (r .sheet ≡ sheetAfter call sheet) × (ys ≡ cellsAfter call (sheet .settings) (partsOf (sheet .design)) xs)
   accepted-call o = by (verdict call sheet xs r ys c)
     where
       by : Verdict call sheet xs r ys → (sheetDecision call sheet (length xs) ≡ Passed) × (r .sheet ≡ sheetAfter call sheet) × (ys ≡ cellsAfter call (sheet .settings) (partsOf (sheet .design)) xs)
       by (accepted p a l) = (p, ap (λ (x : Answer). x .sheet) a, l)
-      by (refusal f p a l) = let z : Refused f ≡ Accepted = sym (ap (λ (x : Answer). x .outcome) a) ∙ o in let y : _≡_ {A = ℕ} 0 1 = cc in absurd (omega arith)
+      by (refusal f p a l) = let z : Failed f ≡ Passed = sym (ap (λ (x : Answer). x .outcome) a) ∙ o in let y : _≡_ {A = ℕ} 0 1 = cc in absurd (omega arith)
 
 -- ---- a run's contract, once it is known where the run stops
 
-pub stopped-here : (ran : Ran) (o : Outcome) (sheet : Sheet) (ys : List Float) (r : Run) → ran ≡ stopped o sheet ys → r ≡ runStopped o sheet
-    → sheet .design .count ≤ 16 → (o ≡ Accepted → Sized sheet (length ys)) → Stopped ran r ys
+pub stopped-here : (ran : Ran) (o : Check) (sheet : Sheet) (ys : List Float) (r : Run) → ran ≡ stopped o sheet ys → r ≡ runStopped o sheet
+    → sheet .design .count ≤ 16 → (o ≡ Passed → Sized sheet (length ys)) → Stopped ran r ys
 stopped-here ran o sheet ys r e i h k =
     let n : r .card ≡ sheet .design .count + 1 = ap (λ (x : Run). x .card) i in
     record {
@@ -171,7 +170,7 @@ stopped-here ran o sheet ys r e i h k =
     }
 
 -- a refused run says nothing of its sheet's bounds
-pub not-accepted : (e : AeroError) (sheet : Sheet) (lent : ℕ) → Refused e ≡ Accepted → Sized sheet lent
+pub not-accepted : (e : AeroError) (sheet : Sheet) (lent : ℕ) → Failed e ≡ Passed → Sized sheet lent
 not-accepted e sheet lent i = let z : _≡_ {A = ℕ} 0 1 = cc in absurd (omega arith)
 
 -- the sheet after an accepted part is within its bounds
@@ -181,44 +180,44 @@ sized-after sheet part lent d = let f = accepted-part sheet lent part d in recor
 -- ---- the settings card
 
 module _ (s : Settings) (slots : List Part) (xs : List Float) (r : Answer) (ys : List Float) (c : Opened s slots xs r ys) where
-  pub refused-open : (e : AeroError) → r .outcome ≡ Refused e → (settingsTest s (length xs) ≡ Failed e) × (r .sheet ≡ opened s slots) × (ys ≡ xs)
+  pub refused-open : (e : AeroError) → r .outcome ≡ Failed e → (settingsTest s (length xs) ≡ Failed e) × (r .sheet ≡ opened s slots) × (ys ≡ xs)
   refused-open e o = by-cases (settingsTest s (length xs)) refl (c .answer) (c .left)
     where
       by-cases : (d : Check) → settingsTest s (length xs) ≡ d → r ≡ answered d (opened s slots) (opened s slots) → ys ≡ chosen d xs (written 0 (madeCells (build s [])) xs)
           → (settingsTest s (length xs) ≡ Failed e) × (r .sheet ≡ opened s slots) × (ys ≡ xs)
-      by-cases Passed d a l = let z : Accepted ≡ Refused e = sym (ap (λ (x : Answer). x .outcome) a) ∙ o in let y : _≡_ {A = ℕ} 0 1 = cc in absurd (omega arith)
+      by-cases Passed d a l = let z : Passed ≡ Failed e = sym (ap (λ (x : Answer). x .outcome) a) ∙ o in let y : _≡_ {A = ℕ} 0 1 = cc in absurd (omega arith)
       by-cases (Failed f) d a l =
-          let z : Refused f ≡ Refused e = sym (ap (λ (x : Answer). x .outcome) a) ∙ o in
+          let z : Failed f ≡ Failed e = sym (ap (λ (x : Answer). x .outcome) a) ∙ o in
           let g : Failed f ≡ Failed e = cc in
           (d ∙ g, ap (λ (x : Answer). x .sheet) a, l)
 
-  pub accepted-open : r .outcome ≡ Accepted → (settingsTest s (length xs) ≡ Passed) × (r .sheet ≡ opened s slots) × (ys ≡ written 0 (madeCells (build s [])) xs)
+  pub accepted-open : r .outcome ≡ Passed → (settingsTest s (length xs) ≡ Passed) × (r .sheet ≡ opened s slots) × (ys ≡ written 0 (madeCells (build s [])) xs)
   accepted-open o = by-cases (settingsTest s (length xs)) refl (c .answer) (c .left)
     where
       by-cases : (d : Check) → settingsTest s (length xs) ≡ d → r ≡ answered d (opened s slots) (opened s slots) → ys ≡ chosen d xs (written 0 (madeCells (build s [])) xs)
           → (settingsTest s (length xs) ≡ Passed) × (r .sheet ≡ opened s slots) × (ys ≡ written 0 (madeCells (build s [])) xs)
       by-cases Passed d a l = (d, ap (λ (x : Answer). x .sheet) a, l)
-      by-cases (Failed f) d a l = let z : Refused f ≡ Accepted = sym (ap (λ (x : Answer). x .outcome) a) ∙ o in let y : _≡_ {A = ℕ} 0 1 = cc in absurd (omega arith)
+      by-cases (Failed f) d a l = let z : Failed f ≡ Passed = sym (ap (λ (x : Answer). x .outcome) a) ∙ o in let y : _≡_ {A = ℕ} 0 1 = cc in absurd (omega arith)
 
 -- a stream whose settings card reads as `card`
 module _ (s : List ℕ) (xs : List Float) (card : SettingsRead) (i : card ≡ settingsAt s 0) where
-  pub stream-unread : (e : AeroError) → card .outcome ≡ Refused e → streamOf s xs ≡ stoppedAt 0 (Refused e) (opened (card .settings) emptySlots) xs
+  pub stream-unread : (e : AeroError) → card .outcome ≡ Failed e → streamOf s xs ≡ stoppedAt 0 (Failed e) (opened (card .settings) emptySlots) xs
   unfolding streamOf
   stream-unread e o = rw (← i, o)
 
-  pub stream-unopened : (e : AeroError) → card .outcome ≡ Accepted → settingsTest (card .settings) (length xs) ≡ Failed e
-      → streamOf s xs ≡ stoppedAt 0 (Refused e) (opened (card .settings) emptySlots) xs
+  pub stream-unopened : (e : AeroError) → card .outcome ≡ Passed → settingsTest (card .settings) (length xs) ≡ Failed e
+      → streamOf s xs ≡ stoppedAt 0 (Failed e) (opened (card .settings) emptySlots) xs
   unfolding streamOf
   stream-unopened e o t = rw (← i, o, t)
 
-  pub stream-opened : card .outcome ≡ Accepted → settingsTest (card .settings) (length xs) ≡ Passed
+  pub stream-opened : card .outcome ≡ Passed → settingsTest (card .settings) (length xs) ≡ Passed
       → streamOf s xs ≡ allPartCards s (card .next) (opened (card .settings) emptySlots) (written 0 (madeCells (build (card .settings) [])) xs)
   unfolding streamOf
   stream-opened o t = rw (← i, o, t)
 
 -- a run that stops at the settings card
-pub stopped-first : (ran : Ran) (e : AeroError) (sheet : Sheet) (ys : List Float) (r : Run) → ran ≡ stoppedAt 0 (Refused e) sheet ys
-    → r ≡ record { outcome = Refused e; card = 0; sheet = sheet } → Stopped ran r ys
+pub stopped-first : (ran : Ran) (e : AeroError) (sheet : Sheet) (ys : List Float) (r : Run) → ran ≡ stoppedAt 0 (Failed e) sheet ys
+    → r ≡ record { outcome = Failed e; card = 0; sheet = sheet } → Stopped ran r ys
 stopped-first ran e sheet ys r p i =
     let n : r .card ≡ 0 = ap (λ (x : Run). x .card) i in
     record {

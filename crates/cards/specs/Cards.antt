@@ -8,10 +8,11 @@ use lib.Dec.{ltb, eqb}
 use lib.Ieee.{Float}
 use Rattle.elementary.specs.Constants.{0·0}
 use Rattle.aero_error.specs.declared.AeroError.{AeroError}
-use Rattle.aero_error.specs.declared.AeroError.the-variants.{CardEnds, ReservedBit, FieldMissing, TooManyColumns}
+use Rattle.aero_error.specs.declared.AeroError.the-variants.{Broken}
+use Rattle.aero_error.specs.declared.Rule.the-variants.{CardEnds, ReservedBit, FieldMissing, TooManyColumns}
 use Rattle.shapes.specs.declared.NoseShape.{NoseShape}
 use Rattle.shapes.specs.Numbers.{shapeOf}
-use Rattle.drag_sheet.specs.declared.Outcome.the-variants.{Accepted, Refused}
+use Rattle.aero_error.specs.declared.Check.the-variants.{Passed, Failed}
 use Rattle.drag_sheet.specs.Layout.{most-columns}
 use Rattle.cards.specs.declared.ShapeRead.{ShapeRead}
 use Rattle.cards.specs.declared.ShapeRead.the-variants.{Shape, Refused as NoShape}
@@ -35,14 +36,14 @@ unfoldable pub parameterAt : Bool → ℕ → List ℕ → ℕ → ShapeRead
 parameterAt stands n s at =
     cond (parameterRight stands n)
     (onNumber (numberAt stands s at) NoShape λ x next. Shape (shapeOf n x) next)
-    (NoShape FieldMissing)
+    (NoShape (Broken FieldMissing))
 
 -- the shape byte, 5 where it is above 5, then the parameter
 unfoldable pub shapeAt : ℕ → List ℕ → ℕ → ShapeRead
 unfolding parameterAt
 shapeAt map s at =
     onByte (byteAt (bit 0 map) s at) NoShape λ n next.
-    cond (ltb 5 n) (NoShape ReservedBit) (parameterAt (bit 1 map) n s next)
+    cond (ltb 5 n) (NoShape (Broken ReservedBit)) (parameterAt (bit 1 map) n s next)
 
 -- L, d, joint angle and w
 unfoldable pub restAt : NoseShape → ℕ → List ℕ → ℕ → PartRead
@@ -59,7 +60,7 @@ onShape (NoShape e) go = NoPart e
 -- a part card whose bit map is read: a bit above 5 is reserved
 unfoldable pub partFields : ℕ → List ℕ → ℕ → PartRead
 unfolding shapeAt restAt
-partFields map s at = cond (ltb 63 map) (NoPart ReservedBit) (onShape (shapeAt map s at) λ shape next. restAt shape map s next)
+partFields map s at = cond (ltb 63 map) (NoPart (Broken ReservedBit)) (onShape (shapeAt map s at) λ shape next. restAt shape map s next)
 
 unfoldable pub partAt : List ℕ → ℕ → PartRead
 unfolding partFields
@@ -70,7 +71,7 @@ partAt s at = onByte (byteAt true s at) NoPart λ map next. partFields map s nex
 -- a refused settings card, with settings that say nothing
 abbrev pub noSettings : AeroError → SettingsRead
 noSettings e = record {
-  outcome = Refused e;
+  outcome = Failed e;
   settings = record {
     «reference_diameter» = 0·0;
     roughness = 0·0;
@@ -90,10 +91,10 @@ slots n xs = xs ++ replicate (most-columns - n) 0·0
 unfoldable pub columnsAt : Float → Float → Float → ℕ → List ℕ → ℕ → SettingsRead
 unfolding numbersAt
 columnsAt D roughness B n s at =
-    cond (ltb most-columns n) (noSettings TooManyColumns)
+    cond (ltb most-columns n) (noSettings (Broken TooManyColumns))
     (cond (has s at (16 * n))
     (record {
-      outcome = Accepted;
+      outcome = Passed;
       settings = record {
         «reference_diameter» = D;
         roughness = roughness;
@@ -104,7 +105,7 @@ columnsAt D roughness B n s at =
       };
       next = at + 16 * n;
     })
-    (noSettings CardEnds))
+    (noSettings (Broken CardEnds)))
 
 -- B and the count byte, then the columns
 unfoldable pub finenessAt : ℕ → Float → Float → List ℕ → ℕ → SettingsRead
@@ -118,9 +119,9 @@ finenessAt map D roughness s at =
 unfoldable pub settingsFields : ℕ → List ℕ → ℕ → SettingsRead
 unfolding finenessAt pairAt
 settingsFields map s at =
-    cond (ltb 15 map) (noSettings ReservedBit)
-    (cond (not (bit 0 map)) (noSettings FieldMissing)
-    (cond (not (bit 2 map)) (noSettings FieldMissing)
+    cond (ltb 15 map) (noSettings (Broken ReservedBit))
+    (cond (not (bit 0 map)) (noSettings (Broken FieldMissing))
+    (cond (not (bit 2 map)) (noSettings (Broken FieldMissing))
     (onPair (pairAt true (bit 1 map) s at) noSettings λ D roughness next.
     finenessAt map D roughness s next)))
 

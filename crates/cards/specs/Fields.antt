@@ -9,7 +9,8 @@ use lib.Ieee.{Float}
 use Rattle.elementary.specs.Arithmetic.{bits}
 use Rattle.elementary.specs.Constants.{0·0}
 use Rattle.aero_error.specs.declared.AeroError.{AeroError}
-use Rattle.aero_error.specs.declared.AeroError.the-variants.{CardEnds}
+use Rattle.aero_error.specs.declared.AeroError.the-variants.{Broken}
+use Rattle.aero_error.specs.declared.Rule.the-variants.{CardEnds}
 use Rattle.cards.specs.declared.ByteRead.{ByteRead}
 use Rattle.cards.specs.declared.ByteRead.the-variants.{Byte, Refused as NoByte}
 use Rattle.cards.specs.declared.NumberRead.{NumberRead}
@@ -35,12 +36,12 @@ eightBytes s at = fourBytes s at + 0x1_0000_0000 * fourBytes s (at + 4)
 -- a byte field; one whose bit doesn't stand is 0 ("An absent shape is 0 .. absent columns none")
 abbrev pub byteAt : Bool → List ℕ → ℕ → ByteRead
 byteAt false s at = Byte 0 at
-byteAt true s at = cond (has s at 1) (Byte (getD s at 0) (at + 1)) (NoByte CardEnds)
+byteAt true s at = cond (has s at 1) (Byte (getD s at 0) (at + 1)) (NoByte (Broken CardEnds))
 
 -- a float field; one whose bit doesn't stand is +0 ("an absent number +0")
 abbrev pub numberAt : Bool → List ℕ → ℕ → NumberRead
 numberAt false s at = Number 0·0 at
-numberAt true s at = cond (has s at 8) (Number (bits (eightBytes s at)) (at + 8)) (NoNumber CardEnds)
+numberAt true s at = cond (has s at 8) (Number (bits (eightBytes s at)) (at + 8)) (NoNumber (Broken CardEnds))
 
 -- what was read goes on to what follows it, and a refusal ends the card
 abbrev pub onByte : {A : Type 0} → ByteRead → (AeroError → A) → (ℕ → ℕ → A) → A

@@ -11,8 +11,6 @@ use Rattle.aero_error.specs.declared.AeroError.{AeroError}
 use Rattle.aero_error.specs.declared.Check.{Check}
 use Rattle.aero_error.specs.declared.Check.the-variants.{Passed, Failed}
 use Rattle.drag_sheet.specs.declared.Part.{Part}
-use Rattle.drag_sheet.specs.declared.Outcome.{Outcome}
-use Rattle.drag_sheet.specs.declared.Outcome.the-variants.{Accepted, Refused}
 use Rattle.drag_sheet.specs.Layout.{written, part-rows, most-columns, all-rows}
 use Rattle.drag_sheet.specs.Build.{build, partsOf}
 use Rattle.drag_sheet.specs.declared.Sheet.{Sheet}
@@ -30,14 +28,14 @@ pub record Ran : Type 0 where
   pub cells : List Float
 
 -- stopped at a card: "K the card from 0"
-abbrev pub stoppedAt : ℕ → Outcome → Sheet → List Float → Ran
+abbrev pub stoppedAt : ℕ → Check → Sheet → List Float → Ran
 stoppedAt card outcome sheet xs = record { run = record { outcome = outcome; card = card; sheet = sheet }; cells = xs }
 
 -- the answer at a part card: the settings card and the design's parts stand before it
-abbrev pub runStopped : Outcome → Sheet → Run
+abbrev pub runStopped : Check → Sheet → Run
 runStopped outcome sheet = record { outcome = outcome; card = sheet .design .count + 1; sheet = sheet }
 
-abbrev pub stopped : Outcome → Sheet → List Float → Ran
+abbrev pub stopped : Check → Sheet → List Float → Ran
 stopped outcome sheet xs = record { run = runStopped outcome sheet; cells = xs }
 
 abbrev pub onPart : PartRead → (AeroError → Ran) → (Part → ℕ → Ran) → Ran
@@ -48,10 +46,6 @@ abbrev pub onCheck : Check → (AeroError → Ran) → Ran → Ran
 onCheck Passed refuse go = go
 onCheck (Failed e) refuse go = refuse e
 
-abbrev pub onOutcome : Outcome → (AeroError → Ran) → Ran → Ran
-onOutcome Accepted refuse go = go
-onOutcome (Refused e) refuse go = refuse e
-
 -- a part is inserted last
 abbrev pub insertLast : Sheet → Part → Call
 insertLast sheet part = insert (sheet .design .count) part
@@ -60,14 +54,14 @@ insertLast sheet part = insert (sheet .design .count) part
 abbrev pub partCard : List ℕ → ℕ → Sheet → List Float → (ℕ → Sheet → List Float → Ran) → Ran
 partCard s at sheet xs go =
     cond (ltb at (length s))
-    (onPart (partAt s at) (λ e. stopped (Refused e) sheet xs) λ part next.
-    onCheck (sheetDecision (insertLast sheet part) sheet (length xs)) (λ e. stopped (Refused e) sheet xs)
+    (onPart (partAt s at) (λ e. stopped (Failed e) sheet xs) λ part next.
+    onCheck (sheetDecision (insertLast sheet part) sheet (length xs)) (λ e. stopped (Failed e) sheet xs)
     (go next (sheetAfter (insertLast sheet part) sheet) (cellsAfter (insertLast sheet part) (sheet .settings) (partsOf (sheet .design)) xs)))
-    (stopped Accepted sheet xs)
+    (stopped Passed sheet xs)
 
 -- the part cards from a position on, at most n of them. Each takes a byte at least, so no stream of n bytes has more than n
 unfoldable pub partCards : ℕ → List ℕ → ℕ → Sheet → List Float → Ran
-partCards zero s at sheet xs = stopped Accepted sheet xs
+partCards zero s at sheet xs = stopped Passed sheet xs
 partCards (suc n) s at sheet xs = partCard s at sheet xs (partCards n s)
 
 -- all the part cards from a position on
@@ -78,8 +72,8 @@ allPartCards s at sheet xs = partCards (length s) s at sheet xs
 abbrev pub streamFrom : List ℕ → SettingsRead → List Float → Ran
 streamFrom s card xs =
     let sheet = opened (card .settings) emptySlots in
-    onOutcome (card .outcome) (λ e. stoppedAt 0 (Refused e) sheet xs)
-    (onCheck (settingsTest (card .settings) (length xs)) (λ e. stoppedAt 0 (Refused e) sheet xs)
+    onCheck (card .outcome) (λ e. stoppedAt 0 (Failed e) sheet xs)
+    (onCheck (settingsTest (card .settings) (length xs)) (λ e. stoppedAt 0 (Failed e) sheet xs)
     (allPartCards s (card .next) sheet (written 0 (madeCells (build (card .settings) [])) xs)))
 
 unfoldable pub streamOf : List ℕ → List Float → Ran
@@ -97,4 +91,4 @@ pub record Stopped (ran : Ran) (r : Run) (ys : List Float) : Type 0 where
   pub answer : r ≡ ran .run
   pub left : ys ≡ ran .cells
   pub card : r .card ≤ part-rows + 1
-  pub sizes : r .outcome ≡ Accepted → Sized (r .sheet) (length ys)
+  pub sizes : r .outcome ≡ Passed → Sized (r .sheet) (length ys)

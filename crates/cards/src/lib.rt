@@ -7,12 +7,13 @@ ghost use lib.ListN.{length};
 ghost use Rattle.elementary.specs.Arithmetic.{bits};
 ghost use Rattle.cards.specs.Fields.{has, fourBytes, eightBytes, byteAt, numberAt, pairAt, numbersAt};
 ghost use Rattle.cards.specs.Cards.{takesParameter, parameterRight, parameterAt, shapeAt, restAt, partFields, partAt, noSettings, slots, columnsAt, finenessAt, settingsFields, settingsAt};
-ghost use Rattle.drag_sheet.specs.declared.Outcome.the-variants.{Accepted};
+ghost use Rattle.aero_error.specs.declared.Check.the-variants.{Passed};
 ghost use Rattle.drag_sheet.specs.Calls.{opened, emptySlots};
 ghost use Rattle.cards.specs.Run.{runStopped, Stopped, Sized, allPartCards, streamOf};
 use aero_error::AeroError;
+use aero_error::Check;
+use aero_error::Rule;
 use drag_sheet::Design;
-use drag_sheet::Outcome;
 use drag_sheet::Part;
 use drag_sheet::Settings;
 use drag_sheet::Sheet;
@@ -54,7 +55,7 @@ pub enum PartRead {
 
 // A settings card, with the position after it. Refused, the settings say nothing.
 pub struct SettingsRead {
-    pub outcome: Outcome,
+    pub outcome: Check,
     pub settings: Settings,
     pub next: usize,
 }
@@ -62,7 +63,7 @@ pub struct SettingsRead {
 // A run's answer: what it came to, the card it stopped at, counted from 0, and the sheet that stands
 // then. An accepted run stops past its last card.
 pub struct Run {
-    pub outcome: Outcome,
+    pub outcome: Check,
     pub card: usize,
     pub sheet: Sheet,
 }
@@ -117,7 +118,7 @@ fn read_byte(stands: bool, s: &[u8], at: usize) -> ByteRead
                 next: at + 1,
             };
         }
-        return ByteRead::Refused(AeroError::CardEnds);
+        return ByteRead::Refused(AeroError::Broken(Rule::CardEnds));
     }
     ByteRead::Byte { value: 0, next: at }
 }
@@ -133,7 +134,7 @@ fn read_number(stands: bool, s: &[u8], at: usize) -> NumberRead
                 next: at + 8,
             };
         }
-        return NumberRead::Refused(AeroError::CardEnds);
+        return NumberRead::Refused(AeroError::Broken(Rule::CardEnds));
     }
     NumberRead::Number {
         value: 0.0,
@@ -213,7 +214,7 @@ fn read_parameter(stands: bool, number: u8, s: &[u8], at: usize) -> ShapeRead
             },
         }
     } else {
-        ShapeRead::Refused(AeroError::FieldMissing)
+        ShapeRead::Refused(AeroError::Broken(Rule::FieldMissing))
     }
 }
 
@@ -225,7 +226,7 @@ fn read_shape(map: u8, s: &[u8], at: usize) -> ShapeRead
         ByteRead::Refused(e) => ShapeRead::Refused(e),
         ByteRead::Byte { value, next } => {
             if 5 < value {
-                ShapeRead::Refused(AeroError::ReservedBit)
+                ShapeRead::Refused(AeroError::Broken(Rule::ReservedBit))
             } else {
                 read_parameter(map / 2 % 2 == 1, value, s, next)
             }
@@ -268,7 +269,7 @@ fn read_part_fields(map: u8, s: &[u8], at: usize) -> PartRead
     ensures { λ r. ⌜ r ≡ partFields map (now (s .entry)) at ⌝ }
 {
     if 63 < map {
-        return PartRead::Refused(AeroError::ReservedBit);
+        return PartRead::Refused(AeroError::Broken(Rule::ReservedBit));
     }
     match read_shape(map, s, at) {
         ShapeRead::Refused(e) => PartRead::Refused(e),
@@ -292,7 +293,7 @@ fn no_settings(e: AeroError) -> SettingsRead
     ensures { λ r. ⌜ r ≡ noSettings e ⌝ }
 {
     SettingsRead {
-        outcome: Outcome::Refused(e),
+        outcome: Check::Failed(e),
         settings: Settings {
             reference_diameter: 0.0,
             roughness: 0.0,
@@ -311,13 +312,13 @@ fn read_columns(d: f64, roughness: f64, b: f64, n: u8, s: &[u8], at: usize) -> S
 {
     let count = n as usize;
     if 32 < count {
-        return no_settings(AeroError::TooManyColumns);
+        return no_settings(AeroError::Broken(Rule::TooManyColumns));
     }
     if has(s, at, 16 * count) {
         let machs = read_numbers(count, s, at);
         let reynolds = read_numbers(count, s, at + 8);
         return SettingsRead {
-            outcome: Outcome::Accepted,
+            outcome: Check::Passed,
             settings: Settings {
                 reference_diameter: d,
                 roughness,
@@ -329,7 +330,7 @@ fn read_columns(d: f64, roughness: f64, b: f64, n: u8, s: &[u8], at: usize) -> S
             next: at + 16 * count,
         };
     }
-    no_settings(AeroError::CardEnds)
+    no_settings(AeroError::Broken(Rule::CardEnds))
 }
 
 // B and the count byte, then the columns.
@@ -353,13 +354,13 @@ fn read_settings_fields(map: u8, s: &[u8], at: usize) -> SettingsRead
     ensures { λ r. ⌜ r ≡ settingsFields map (now (s .entry)) at ⌝ }
 {
     if 15 < map {
-        return no_settings(AeroError::ReservedBit);
+        return no_settings(AeroError::Broken(Rule::ReservedBit));
     }
     if map / 1 % 2 != 1 {
-        return no_settings(AeroError::FieldMissing);
+        return no_settings(AeroError::Broken(Rule::FieldMissing));
     }
     if map / 4 % 2 != 1 {
-        return no_settings(AeroError::FieldMissing);
+        return no_settings(AeroError::Broken(Rule::FieldMissing));
     }
     match read_pair(true, map / 2 % 2 == 1, s, at) {
         PairRead::Refused(e) => no_settings(e),
@@ -384,7 +385,7 @@ pub fn read_settings(s: &[u8], at: usize) -> SettingsRead
 // ---- the run over a whole stream
 
 // Stopped at a part card, or past the last one.
-fn stopped(outcome: Outcome, sheet: Sheet) -> Run
+fn stopped(outcome: Check, sheet: Sheet) -> Run
     requires { ⌜ sheet .design .count ≤ 16 ⌝ }
     ensures { λ r. ⌜ r ≡ runStopped outcome sheet ⌝ }
 {
@@ -407,21 +408,21 @@ fn run_parts(s: &[u8], start: usize, opened: Sheet, cells: &mut [f64]) -> Run
         let count = sheet.design.count;
         match read_part(s, at) {
             PartRead::Refused(e) => {
-                return stopped(Outcome::Refused(e), sheet);
+                return stopped(Check::Failed(e), sheet);
             }
             PartRead::Read { part, next } => {
                 let answer = drag_sheet::insert(sheet, count, part, cells);
                 let outcome = answer.outcome;
                 let after = answer.sheet;
-                if let Outcome::Refused(e) = outcome {
-                    return stopped(Outcome::Refused(e), after);
+                if let Check::Failed(e) = outcome {
+                    return stopped(Check::Failed(e), after);
                 }
                 sheet = after;
                 at = next;
             }
         }
     }
-    stopped(Outcome::Accepted, sheet)
+    stopped(Check::Passed, sheet)
 }
 
 // A sheet with no parts.
@@ -453,9 +454,9 @@ pub fn run_stream(s: &[u8], cells: &mut [f64]) -> Run
     let settings = card.settings;
     let next = card.next;
     let first = card.outcome;
-    if let Outcome::Refused(e) = first {
+    if let Check::Failed(e) = first {
         return Run {
-            outcome: Outcome::Refused(e),
+            outcome: Check::Failed(e),
             card: 0,
             sheet: blank(settings),
         };
@@ -463,9 +464,9 @@ pub fn run_stream(s: &[u8], cells: &mut [f64]) -> Run
     let answer = drag_sheet::open(settings, cells);
     let outcome = answer.outcome;
     let sheet = answer.sheet;
-    if let Outcome::Refused(e) = outcome {
+    if let Check::Failed(e) = outcome {
         return Run {
-            outcome: Outcome::Refused(e),
+            outcome: Check::Failed(e),
             card: 0,
             sheet,
         };

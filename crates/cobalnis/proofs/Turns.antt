@@ -12,7 +12,7 @@ use lib.Seq.{sets, sets-eq, drop-cons, drop-drop, getD-drop}
 use lib.Dec.{ltb}
 use lib.Ieee.{Float}
 use Rattle.drag.specs.Friction.{machChecked}
-use Rattle.drag_sheet.specs.Tests.{_then_}
+use Rattle.aero_error.specs.Checks.{_then_}
 use Rattle.cards.proofs.Numbers.{slot-next}
 use Rattle.sheet_text.proofs.Puts.{sets-append}
 use Rattle.cobalnis.specs.Words.{every, spread, shapesStand}

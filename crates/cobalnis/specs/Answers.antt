@@ -10,12 +10,13 @@ use lib.Ieee.{Float, toBits, binary64}
 use Rattle.elementary.specs.Constants.{0·0}
 use Rattle.elementary.specs.Steps.{SQRT, LN, EXP, POW, SIN}
 use Rattle.aero_error.specs.declared.AeroError.{AeroError}
-use Rattle.aero_error.specs.declared.AeroError.the-variants.{ReservedBit, TooFewCells}
+use Rattle.aero_error.specs.declared.AeroError.the-variants.{Broken}
+use Rattle.aero_error.specs.declared.Rule.the-variants.{ReservedBit, TooFewCells}
 use Rattle.aero_error.specs.declared.Check.{Check}
 use Rattle.aero_error.specs.declared.Check.the-variants.{Passed, Failed}
 use Rattle.aero_error.specs.declared.Coefficient.{Coefficient}
 use Rattle.aero_error.specs.declared.Coefficient.the-variants.{Value, Refused}
-use Rattle.aero_error.specs.Checks.{_and-then_}
+use Rattle.aero_error.specs.Checks.{_then_, unless, _and-then_}
 use Rattle.aero_error.specs.Refusals.{numberOf, codeOf, valueOf}
 use Rattle.drag.specs.Friction.{machChecked, criticalReynolds, incompressibleSkinFriction, skinFrictionCoefficient, bodyFrictionFormFactor}
 use Rattle.drag.specs.Pressure.{stagnationRatio, stagnationPressureRatio, stagnationDragCoefficient, baseDragCoefficient, jointPressureDragCoefficient, boattailFactor}
@@ -32,12 +33,9 @@ use Rattle.nose_drag.specs.Below.{subsonicPressureDragCoefficient}
 use Rattle.nose_drag.specs.Methods.{ogivePressureDragFactor, finenessScaledPressureDrag, ellipsoidSubsonicPressureDrag}
 use Rattle.nose_drag.specs.Constants.{one-third}
 use Rattle.nose_drag.specs.Curves.{stepCurve, newCurve, coefficientOf}
-use Rattle.drag_sheet.specs.declared.Outcome.{Outcome}
-use Rattle.drag_sheet.specs.declared.Outcome.the-variants.{Accepted, Refused as Stopped}
 use Rattle.drag_sheet.specs.declared.Sheet.{Sheet}
 use Rattle.drag_sheet.specs.declared.Answer.{Answer}
 use Rattle.drag_sheet.specs.Layout.{part-rows}
-use Rattle.drag_sheet.specs.Tests.{_then_, unless}
 use Rattle.drag_sheet.specs.Calls.{Call, Called, Opened, emptySlots}
 use Rattle.cards.specs.declared.PartRead.{PartRead}
 use Rattle.cards.specs.declared.PartRead.the-variants.{Read, Refused as NoPart}
@@ -180,9 +178,9 @@ CurveAnswered true curve machs xs before r ys said = (r ≡ no-such) × (ys ≡ 
 -- ---- the calls on a sheet of words
 
 -- accepted, the words are those of the sheet handed back; refused, they are as they were, and the value refused is handed out
-abbrev pub Shown : Outcome → Sheet → List ℕ → ℕ → List ℕ → ℕ → Type 0
-Shown Accepted sheet ws r ws' bits' = (r ≡ 0) × (ws' ≡ sheetWords sheet) × (bits' ≡ 0)
-Shown (Stopped e) sheet ws r ws' bits' = (r ≡ statusOf e) × (ws' ≡ ws) × (bits' ≡ toBits binary64 (valueOf e))
+abbrev pub Shown : Check → Sheet → List ℕ → ℕ → List ℕ → ℕ → Type 0
+Shown Passed sheet ws r ws' bits' = (r ≡ 0) × (ws' ≡ sheetWords sheet) × (bits' ≡ 0)
+Shown (Failed e) sheet ws r ws' bits' = (r ≡ statusOf e) × (ws' ≡ ws) × (bits' ≡ toBits binary64 (valueOf e))
 
 -- the answer of `drag_sheet`'s own call on the sheet that the words stand for, shown in words
 pub record CallShown (call : Call) (ws : List ℕ) (xs : List Float) (r : ℕ) (ws' : List ℕ) (bits' : ℕ) (ys : List Float) : Type 0 where
@@ -198,7 +196,7 @@ pub record OpenShown (ws : List ℕ) (xs : List Float) (r : ℕ) (ws' : List ℕ
 -- where every shape has a number up to 5; else refusal 5 before all others
 abbrev pub CallDone : Bool → Call → List ℕ → List Float → ℕ → List ℕ → ℕ → List Float → Type 0
 CallDone true call ws xs r ws' bits' ys = CallShown call ws xs r ws' bits' ys
-CallDone false call ws xs r ws' bits' ys = (r ≡ statusOf ReservedBit) × (ws' ≡ ws) × (bits' ≡ 0) × (ys ≡ xs)
+CallDone false call ws xs r ws' bits' ys = (r ≡ statusOf (Broken ReservedBit)) × (ws' ≡ ws) × (bits' ≡ 0) × (ys ≡ xs)
 
 abbrev pub sheetStands : List ℕ → Bool
 sheetStands ws = shapesStand part-rows (drop 69 ws)
@@ -213,6 +211,6 @@ PartCard (Read part last) r ws ws' next next' = (r ≡ 0) × (ws' ≡ partWords 
 PartCard (NoPart e) r ws ws' next next' = (r ≡ statusOf e) × (ws' ≡ ws) × (next' ≡ next)
 
 -- a settings card gives the first 68 words of a sheet
-abbrev pub SettingsCard : Outcome → SettingsRead → ℕ → List ℕ → List ℕ → ℕ → ℕ → Type 0
-SettingsCard Accepted read r ws ws' next next' = (r ≡ 0) × (ws' ≡ sets ws 0 (settingsWords (read .settings))) × (next' ≡ read .next)
-SettingsCard (Stopped e) read r ws ws' next next' = (r ≡ statusOf e) × (ws' ≡ ws) × (next' ≡ next)
+abbrev pub SettingsCard : Check → SettingsRead → ℕ → List ℕ → List ℕ → ℕ → ℕ → Type 0
+SettingsCard Passed read r ws ws' next next' = (r ≡ 0) × (ws' ≡ sets ws 0 (settingsWords (read .settings))) × (next' ≡ read .next)
+SettingsCard (Failed e) read r ws ws' next next' = (r ≡ statusOf e) × (ws' ≡ ws) × (next' ≡ next)

@@ -9,12 +9,12 @@ ghost use Prim.Native.Nat.{_≤_};
 ghost use lib.Dec.{ltb};
 ghost use lib.ListN.{length};
 ghost use lib.Seq.{sets};
-ghost use Rattle.aero_error.specs.Checks.{dimension};
+ghost use Rattle.aero_error.specs.Checks.{_then_, unless, dimension};
 ghost use Rattle.aero_error.specs.Refusals.{valueOf, codeOfQuantity};
 ghost use Rattle.nose_drag.specs.Curves.{takesConeFormula};
 ghost use Rattle.drag_sheet.specs.Calls.{insert as insertCall, remove as removeCall, replace as replaceCall, column as columnCall};
-ghost use Rattle.drag_sheet.specs.Tests.{_then_, unless};
-ghost use Rattle.aero_error.specs.declared.AeroError.the-variants.{TooFewCells};
+ghost use Rattle.aero_error.specs.declared.AeroError.the-variants.{Broken};
+ghost use Rattle.aero_error.specs.declared.Rule.the-variants.{TooFewCells};
 ghost use Rattle.cards.specs.Cards.{partAt, settingsAt};
 ghost use Rattle.shapes.specs.Numbers.{shapeOf};
 ghost use Rattle.sheet_text.specs.Text.{Printed};
@@ -28,9 +28,9 @@ use aero_error::AeroError;
 use aero_error::Check;
 use aero_error::Coefficient;
 use aero_error::Quantity;
+use aero_error::Rule;
 use cards::PartRead;
 use drag_sheet::Answer;
-use drag_sheet::Outcome;
 use nose_drag::Curve;
 use nose_drag::PressureDragCurve;
 use shapes::NoseShape;
@@ -209,7 +209,7 @@ pub extern "C" fn cobalnis_nose_point(nose: u32, place: usize, out: &mut [u64; 2
     if nose <= 8 {
         let range = StoneyNose::of_number(nose as u64).points();
         if range.count <= place {
-            return status_of(AeroError::NoSuchPlace);
+            return status_of(AeroError::Broken(Rule::NoSuchPlace));
         }
         let at = range.first + place;
         *out = [
@@ -304,7 +304,7 @@ fn read_curve(curve: PressureDragCurve, machs: &[f64], out: &mut [u64], said: &m
 {
     if out.len() < machs.len() {
         *said = about(0.0, curve);
-        return status_of(AeroError::TooFewCells);
+        return status_of(AeroError::Broken(Rule::TooFewCells));
     }
     match check_machs(machs) {
         Check::Failed(e) => {
@@ -353,12 +353,12 @@ fn show(answer: Answer, words: &mut [u64; 165], bits: &mut u64) -> u32
     let outcome = answer.outcome;
     let sheet = answer.sheet;
     match outcome {
-        Outcome::Accepted => {
+        Check::Passed => {
             *words = words::sheet_words(sheet);
             *bits = 0;
             0
         }
-        Outcome::Refused(e) => refuse(e, bits),
+        Check::Failed(e) => refuse(e, bits),
     }
 }
 
@@ -396,7 +396,7 @@ pub extern "C" fn cobalnis_insert(
         let answer = drag_sheet::insert(sheet, place, words::part_of(part), cells);
         return show(answer, words, bits);
     }
-    refuse(AeroError::ReservedBit, bits)
+    refuse(AeroError::Broken(Rule::ReservedBit), bits)
 }
 
 #[no_mangle]
@@ -414,7 +414,7 @@ pub extern "C" fn cobalnis_replace(
         let answer = drag_sheet::replace(sheet, place, words::part_of(part), cells);
         return show(answer, words, bits);
     }
-    refuse(AeroError::ReservedBit, bits)
+    refuse(AeroError::Broken(Rule::ReservedBit), bits)
 }
 
 #[no_mangle]
@@ -430,7 +430,7 @@ pub extern "C" fn cobalnis_remove(
         let answer = drag_sheet::remove(words::sheet_of(words), place, cells);
         return show(answer, words, bits);
     }
-    refuse(AeroError::ReservedBit, bits)
+    refuse(AeroError::Broken(Rule::ReservedBit), bits)
 }
 
 #[no_mangle]
@@ -449,7 +449,7 @@ pub extern "C" fn cobalnis_set_column(
         let answer = drag_sheet::set_column(sheet, column, mach, reynolds, cells);
         return show(answer, words, bits);
     }
-    refuse(AeroError::ReservedBit, bits)
+    refuse(AeroError::Broken(Rule::ReservedBit), bits)
 }
 
 // ---- cards
@@ -468,8 +468,8 @@ pub extern "C" fn cobalnis_read_settings(
     let outcome = read.outcome;
     let settings = read.settings;
     match outcome {
-        Outcome::Refused(e) => status_of(e),
-        Outcome::Accepted => {
+        Check::Failed(e) => status_of(e),
+        Check::Passed => {
             words::put_settings(settings, words);
             *next = read.next;
             0

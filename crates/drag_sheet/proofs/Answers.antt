@@ -8,7 +8,7 @@ use lib.ListN.{length, drop, set}
 use lib.Seq.{take-take, take-set-lt}
 use lib.Dec.{ltb, leb}
 use borrow.Author.Tests.{ltb-false, leb-false}
-use Rattle.aero_error.specs.declared.AeroError.the-variants.{TooManyColumns, TooFewCells, DesignFull, NoSuchPlace}
+use Rattle.aero_error.specs.declared.Rule.the-variants.{TooManyColumns, TooFewCells, DesignFull, NoSuchPlace}
 use Rattle.aero_error.specs.declared.Check.{Check}
 use Rattle.aero_error.specs.declared.Check.the-variants.{Passed, Failed}
 use Rattle.drag_sheet.specs.declared.Settings.{Settings}
@@ -17,20 +17,20 @@ use Rattle.drag_sheet.specs.Layout.{all-rows, part-rows, written}
 use Rattle.drag_sheet.specs.Build.{partsOf, machsOf, reynoldsOf, Made, cells, refused, build, finished, partRow, partRowsFrom, Filled}
 use Rattle.drag_sheet.specs.declared.Sheet.{Sheet}
 use Rattle.drag_sheet.specs.declared.Answer.{Answer}
-use Rattle.drag_sheet.specs.Tests.{_then_, unless, bodyTest, columnsTest, settingsTest, partTest, partsTest, columnTest, sheetTest}
+use Rattle.aero_error.specs.Checks.{_then_, unless}
+use Rattle.drag_sheet.specs.Tests.{bodyTest, columnsTest, settingsTest, partTest, partsTest, columnTest, sheetTest}
 use lib.Ieee.{Float}
 use Rattle.aero_error.specs.declared.AeroError.{AeroError}
-use Rattle.drag_sheet.specs.declared.Outcome.{Outcome}
-use Rattle.drag_sheet.specs.declared.Outcome.the-variants.{Accepted, Refused}
+use Rattle.aero_error.specs.declared.Rule.{Rule}
 use Rattle.drag_sheet.specs.Formulas.{lastFrom}
 use Rattle.elementary.specs.Constants.{0·0}
 use Rattle.drag_sheet.specs.declared.Design.{Design}
-use Rattle.drag_sheet.specs.Calls.{Call, insert, remove, replace, column, Wrote, decision, callTest, argumentsTest, rowsTest, tried, madeCells, cellsAfter, sheetDecision, sheetAfter, answerFor, Called, Opened, opened, BothMade, nextWidth, rowAt, nextRow, replacedIn}
+use Rattle.drag_sheet.specs.Calls.{Call, insert, remove, replace, column, Wrote, decision, callTest, argumentsTest, rowsTest, tried, madeCells, cellsAfter, sheetDecision, sheetAfter, answered, Called, Opened, opened, BothMade, nextWidth, rowAt, nextRow, replacedIn}
 
-pub wrote-cells : (m : Made) (vs : List Float) (o : Outcome) (xs ys : List Float) → m ≡ cells vs → o ≡ Accepted → ys ≡ written 0 vs xs → Wrote m o xs ys
+pub wrote-cells : (m : Made) (vs : List Float) (o : Check) (xs ys : List Float) → m ≡ cells vs → o ≡ Passed → ys ≡ written 0 vs xs → Wrote m o xs ys
 wrote-cells m vs o xs ys e a w = subst (λ (k : Made). Wrote k o xs ys) (sym e) (a, w)
 
-pub wrote-refused : (m : Made) (r : AeroError) (o : Outcome) (xs ys : List Float) → m ≡ refused r → o ≡ Refused r → ys ≡ xs → Wrote m o xs ys
+pub wrote-refused : (m : Made) (r : AeroError) (o : Check) (xs ys : List Float) → m ≡ refused r → o ≡ Failed r → ys ≡ xs → Wrote m o xs ys
 wrote-refused m r o xs ys e a w = subst (λ (k : Made). Wrote k o xs ys) (sym e) (a, w)
 
 -- ---- one test after another
@@ -43,7 +43,7 @@ then-assoc : (a b c : Check) → ((a then b) then c) ≡ (a then b then c)
 then-assoc Passed b c = refl
 then-assoc (Failed r) b c = refl
 
-pub unless-passed : (t : Bool) (e : AeroError) → unless t e ≡ Passed → t ≡ false
+pub unless-passed : (t : Bool) (e : Rule) → unless t e ≡ Passed → t ≡ false
 unless-passed true e p = let z : _≡_ {A = ℕ} 0 1 = cc in absurd (omega arith)
 unless-passed false e p = refl
 
@@ -75,7 +75,7 @@ decided call sheet lent =
     sym (then-assoc (sheetTest (sheet .settings) lent (sheet .design .count) (partsOf (sheet .design))) (argumentsTest call (sheet .settings) (sheet .design .count)) (rowsTest call (sheet .settings) (partsOf (sheet .design))))
 
 pub called-refused : (call : Call) (sheet : Sheet) (xs : List Float) (e : AeroError) → callTest call sheet (length xs) ≡ Failed e
-    → Called call sheet xs (record { outcome = Refused e; sheet = sheet }) xs
+    → Called call sheet xs (record { outcome = Failed e; sheet = sheet }) xs
 called-refused call sheet xs e p =
     let d : sheetDecision call sheet (length xs) ≡ Failed e = decided call sheet (length xs) ∙ rw p in
     record { answer = rw d; left = rw d }
@@ -85,24 +85,24 @@ module _ (call : Call) (sheet : Sheet) (xs ys : List Float) (m : Made) (p : call
   verdict : sheetDecision call sheet (length xs) ≡ tried m
   verdict = decided call sheet (length xs) ∙ rw p q
 
-  pub called-not-made : (e : AeroError) → m ≡ refused e → Called call sheet xs (record { outcome = Refused e; sheet = sheet }) xs
+  pub called-not-made : (e : AeroError) → m ≡ refused e → Called call sheet xs (record { outcome = Failed e; sheet = sheet }) xs
   called-not-made e i = let d : sheetDecision call sheet (length xs) ≡ Failed e = verdict ∙ ap tried i in record { answer = rw d; left = rw d }
 
   pub called-made : (vs : List Float) → m ≡ cells vs → ys ≡ cellsAfter call (sheet .settings) (partsOf (sheet .design)) xs
-      → Called call sheet xs (record { outcome = Accepted; sheet = sheetAfter call sheet }) ys
+      → Called call sheet xs (record { outcome = Passed; sheet = sheetAfter call sheet }) ys
   called-made vs i w = let d : sheetDecision call sheet (length xs) ≡ Passed = verdict ∙ ap tried i in record { answer = rw d; left = rw d w }
 
 -- all rows written, or none
-pub called-all : (call : Call) (sheet : Sheet) (xs ys : List Float) (m : Made) (o : Outcome) (r : Answer)
+pub called-all : (call : Call) (sheet : Sheet) (xs ys : List Float) (m : Made) (o : Check) (r : Answer)
     → callTest call sheet (length xs) ≡ Passed → rowsTest call (sheet .settings) (partsOf (sheet .design)) ≡ tried m
     → cellsAfter call (sheet .settings) (partsOf (sheet .design)) xs ≡ written 0 (madeCells m) xs
-    → Wrote m o xs ys → r ≡ answerFor o sheet (sheetAfter call sheet) → Called call sheet xs r ys
+    → Wrote m o xs ys → r ≡ answered o sheet (sheetAfter call sheet) → Called call sheet xs r ys
 called-all call sheet xs ys (cells vs) o r p q k w e =
-    subst (λ (a : Answer). Called call sheet xs a ys) (sym (e ∙ ap (λ (z : Outcome). answerFor z sheet (sheetAfter call sheet)) (w .0)))
+    subst (λ (a : Answer). Called call sheet xs a ys) (sym (e ∙ ap (λ (z : Check). answered z sheet (sheetAfter call sheet)) (w .0)))
     (called-made call sheet xs ys (cells vs) p q vs refl (w .1 ∙ sym k))
 called-all call sheet xs ys (refused x) o r p q k w e =
-    subst (λ (a : Answer). Called call sheet xs a ys) (sym (e ∙ ap (λ (z : Outcome). answerFor z sheet (sheetAfter call sheet)) (w .0)))
-    (subst (λ (zs : List Float). Called call sheet xs (record { outcome = Refused x; sheet = sheet }) zs) (sym (w .1)) (called-not-made call sheet xs ys (refused x) p q x refl))
+    subst (λ (a : Answer). Called call sheet xs a ys) (sym (e ∙ ap (λ (z : Check). answered z sheet (sheetAfter call sheet)) (w .0)))
+    (subst (λ (zs : List Float). Called call sheet xs (record { outcome = Failed x; sheet = sheet }) zs) (sym (w .1)) (called-not-made call sheet xs ys (refused x) p q x refl))
 
 -- ---- what is known once a call's tests have passed
 
@@ -152,7 +152,7 @@ column-facts sheet lent k M R e = let r = room-of (column k M R) sheet lent e in
 -- ---- open
 
 pub opened-refused : (s : Settings) (slots : List Part) (xs : List Float) (e : AeroError) → settingsTest s (length xs) ≡ Failed e
-    → Opened s slots xs (record { outcome = Refused e; sheet = opened s slots }) xs
+    → Opened s slots xs (record { outcome = Failed e; sheet = opened s slots }) xs
 opened-refused s slots xs e p = record { answer = rw p; left = rw p }
 
 -- with no parts nothing can fail to be built
@@ -160,30 +160,30 @@ pub bare : (s : Settings) → build s [] ≡ cells (madeCells (build s []))
 unfolding build partRowsFrom
 bare s = refl
 
-pub opened-accepted : (s : Settings) (slots : List Part) (xs ys : List Float) (o : Outcome) (r : Answer) → settingsTest s (length xs) ≡ Passed
-    → Wrote (build s []) o xs ys → r ≡ answerFor o (opened s slots) (opened s slots) → Opened s slots xs r ys
+pub opened-accepted : (s : Settings) (slots : List Part) (xs ys : List Float) (o : Check) (r : Answer) → settingsTest s (length xs) ≡ Passed
+    → Wrote (build s []) o xs ys → r ≡ answered o (opened s slots) (opened s slots) → Opened s slots xs r ys
 opened-accepted s slots xs ys o r p w e =
     let v = subst (λ (m : Made). Wrote m o xs ys) (bare s) w in
-    record { answer = rw p (e ∙ ap (λ (z : Outcome). answerFor z (opened s slots) (opened s slots)) (v .0)); left = rw p (v .1) }
+    record { answer = rw p (e ∙ ap (λ (z : Check). answered z (opened s slots) (opened s slots)) (v .0)); left = rw p (v .1) }
 
 -- ---- the two rows of a replaced part
 
-pub both-refused : (own next : Made) (o : Outcome) (e : AeroError) (a b : List Float) → own ≡ refused e → o ≡ Refused e → BothMade own next o a b
+pub both-refused : (own next : Made) (o : Check) (e : AeroError) (a b : List Float) → own ≡ refused e → o ≡ Failed e → BothMade own next o a b
 both-refused own next o e a b i p = subst (λ (m : Made). BothMade m next o a b) (sym i) p
 
-pub both-next : (own next : Made) (o : Outcome) (a b : List Float) → own ≡ cells a → Filled next o b → BothMade own next o a b
+pub both-next : (own next : Made) (o : Check) (a b : List Float) → own ≡ cells a → Filled next o b → BothMade own next o a b
 both-next own next o a b i f = subst (λ (m : Made). BothMade m next o a b) (sym i) (go next f)
   where
     go : (n : Made) → Filled n o b → BothMade (cells a) n o a b
     go (cells ys) h = (h .0, refl, h .1)
     go (refused e) h = h
 
-pub both-failed : (own next : Made) (o : Outcome) (e : AeroError) (a b : List Float) → BothMade own next o a b → o ≡ Refused e → (tried own then tried next) ≡ Failed e
+pub both-failed : (own next : Made) (o : Check) (e : AeroError) (a b : List Float) → BothMade own next o a b → o ≡ Failed e → (tried own then tried next) ≡ Failed e
 both-failed (refused x) next o e a b h p = cc
 both-failed (cells xs) (refused x) o e a b h p = cc
 both-failed (cells xs) (cells ys) o e a b h p = let q = h .0 in let z : _≡_ {A = ℕ} 0 1 = cc in absurd (omega arith)
 
-pub both-passed : (own next : Made) (o : Outcome) (a b : List Float) → BothMade own next o a b → o ≡ Accepted → (own ≡ cells a) × (next ≡ cells b)
+pub both-passed : (own next : Made) (o : Check) (a b : List Float) → BothMade own next o a b → o ≡ Passed → (own ≡ cells a) × (next ≡ cells b)
 both-passed (refused x) next o a b h p = let z : _≡_ {A = ℕ} 0 1 = cc in absurd (omega arith)
 both-passed (cells xs) (refused x) o a b h p = let z : _≡_ {A = ℕ} 0 1 = cc in absurd (omega arith)
 both-passed (cells xs) (cells ys) o a b h p = (ap cells (sym (h .1)), ap cells (sym (h .2)))
@@ -196,7 +196,7 @@ width-le s n place = go (ltb (place + 1) n)
     go false = omega arith
 
 -- a replace whose tests have passed, and whose two rows were tried
-module _ (sheet : Sheet) (place : ℕ) (part : Part) (xs : List Float) (o : Outcome) (a b : List Float)
+module _ (sheet : Sheet) (place : ℕ) (part : Part) (xs : List Float) (o : Check) (a b : List Float)
     (p : callTest (replace place part) sheet (length xs) ≡ Passed)
     (h : BothMade (rowAt (sheet .settings) (sheet .design .parts) place part) (nextRow (sheet .settings) part (drop (place + 1) (partsOf (sheet .design)))) o a b) where
   abbrev own : Made
@@ -211,16 +211,16 @@ module _ (sheet : Sheet) (place : ℕ) (part : Part) (xs : List Float) (o : Outc
       let f = replace-facts sheet (length xs) place part p in
       ap (λ (ps : List Part). partRow (sheet .settings .«reference_diameter») (machsOf (sheet .settings)) (lastFrom 0·0 ps) part) (take-take place (sheet .design .count) (sheet .design .parts) (omega arith))
 
-  pub replace-not-made : (e : AeroError) → o ≡ Refused e → Called (replace place part) sheet xs (record { outcome = Refused e; sheet = sheet }) xs
+  pub replace-not-made : (e : AeroError) → o ≡ Failed e → Called (replace place part) sheet xs (record { outcome = Failed e; sheet = sheet }) xs
   replace-not-made e i = called-not-made (replace place part) sheet xs xs (refused e) p (ap (λ (m : Made). tried m then tried next) own-row ∙ both-failed own next o e a b h i) e refl
 
-  pub replace-made : (d : Design) (ys : List Float) → o ≡ Accepted → d ≡ replacedIn (sheet .design) place part
+  pub replace-made : (d : Design) (ys : List Float) → o ≡ Passed → d ≡ replacedIn (sheet .design) place part
       → ys ≡ finished (sheet .settings) (partsOf d) (written ((place + 1) * sheet .settings .count) b (written (place * sheet .settings .count) a xs))
-      → Called (replace place part) sheet xs (record { outcome = Accepted; sheet = record { settings = sheet .settings; design = d } }) ys
+      → Called (replace place part) sheet xs (record { outcome = Passed; sheet = record { settings = sheet .settings; design = d } }) ys
   unfolding cellsAfter
   replace-made d ys i j w =
       let f = replace-facts sheet (length xs) place part p in
       let m = both-passed own next o a b h i in
       let parts : partsOf d ≡ set (partsOf (sheet .design)) place part = ap partsOf j ∙ take-set-lt (sheet .design .count) (sheet .design .parts) place part (f .1) in
-      subst (λ (g : Design). Called (replace place part) sheet xs (record { outcome = Accepted; sheet = record { settings = sheet .settings; design = g } }) ys) (sym j)
+      subst (λ (g : Design). Called (replace place part) sheet xs (record { outcome = Passed; sheet = record { settings = sheet .settings; design = g } }) ys) (sym j)
       (called-made (replace place part) sheet xs ys (cells []) p (ap (λ (q : Made). tried q then tried next) (own-row ∙ m .0) ∙ ap tried (m .1)) [] refl (w ∙ rw (parts, own-row, m .0, m .1)))

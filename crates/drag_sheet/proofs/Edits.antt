@@ -13,7 +13,6 @@ use Rattle.aero_error.specs.declared.Check.{Check}
 use Rattle.aero_error.specs.declared.Check.the-variants.{Passed, Failed}
 use Rattle.drag_sheet.specs.declared.Settings.{Settings}
 use Rattle.drag_sheet.specs.declared.Part.{Part}
-use Rattle.drag_sheet.specs.declared.Outcome.the-variants.{Accepted, Refused}
 use Rattle.drag_sheet.specs.Layout.{all-rows, part-rows, most-columns, written}
 use Rattle.drag_sheet.specs.Build.{Made, cells, refused, build, partsOf}
 use Rattle.drag_sheet.specs.declared.Sheet.{Sheet}
@@ -72,9 +71,9 @@ module _ (s : Settings) (z : Sized s) (ps : List Part) (few : length ps ≤ part
 
 -- accepted, with the cells that the call leaves; or refused, with the sheet and the cells that were given
 pub data Verdict (call : Call) (sheet : Sheet) (xs : List Float) (r : Answer) (ys : List Float) : Type 0 where
-  accepted : sheetDecision call sheet (length xs) ≡ Passed → r ≡ record { outcome = Accepted; sheet = sheetAfter call sheet } → ys ≡ cellsAfter call (sheet .settings) (partsOf (sheet .design)) xs
+  accepted : sheetDecision call sheet (length xs) ≡ Passed → r ≡ record { outcome = Passed; sheet = sheetAfter call sheet } → ys ≡ cellsAfter call (sheet .settings) (partsOf (sheet .design)) xs
       → Verdict call sheet xs r ys
-  refusal : (e : AeroError) → sheetDecision call sheet (length xs) ≡ Failed e → r ≡ record { outcome = Refused e; sheet = sheet } → ys ≡ xs → Verdict call sheet xs r ys
+  refusal : (e : AeroError) → sheetDecision call sheet (length xs) ≡ Failed e → r ≡ record { outcome = Failed e; sheet = sheet } → ys ≡ xs → Verdict call sheet xs r ys
 
 pub verdict : (call : Call) (sheet : Sheet) (xs : List Float) (r : Answer) (ys : List Float) → Called call sheet xs r ys → Verdict call sheet xs r ys
 verdict call sheet xs r ys c = by (sheetDecision call sheet (length xs)) refl
@@ -84,7 +83,7 @@ verdict call sheet xs r ys c = by (sheetDecision call sheet (length xs)) refl
     by (Failed e) p = refusal e p (c .answer ∙ rw p) (c .left ∙ rw p)
 
 -- "a refused edit hands back the design and every lent cell unaltered"
-pub refused-unaltered : (call : Call) (sheet : Sheet) (xs : List Float) (r : Answer) (ys : List Float) (e : AeroError) → Called call sheet xs r ys → r .outcome ≡ Refused e → (r .sheet ≡ sheet) × (ys ≡ xs)
+pub refused-unaltered : (call : Call) (sheet : Sheet) (xs : List Float) (r : Answer) (ys : List Float) (e : AeroError) → Called call sheet xs r ys → r .outcome ≡ Failed e → (r .sheet ≡ sheet) × (ys ≡ xs)
 refused-unaltered call sheet xs r ys e c o = by (verdict call sheet xs r ys c)
   where
     by : Verdict call sheet xs r ys → (r .sheet ≡ sheet) × (ys ≡ xs)

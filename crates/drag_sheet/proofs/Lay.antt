@@ -10,7 +10,7 @@ use Rattle.elementary.specs.Constants.{0·0}
 use Rattle.aero_error.specs.declared.AeroError.{AeroError}
 use Rattle.drag_sheet.specs.declared.Settings.{Settings}
 use Rattle.drag_sheet.specs.declared.Part.{Part}
-use Rattle.drag_sheet.specs.declared.Outcome.the-variants.{Accepted, Refused}
+use Rattle.aero_error.specs.declared.Check.the-variants.{Passed, Failed}
 use Rattle.drag_sheet.specs.Layout.{all-rows}
 use Rattle.drag_sheet.specs.Build.{Made, cells, refused, after, rowThen, partRow, partRowsFrom, padded, machsOf, finished, build, Filled}
 use Rattle.drag_sheet.proofs.Fill.{after-after, after-none}
@@ -18,15 +18,15 @@ use Rattle.drag_sheet.proofs.Parts.{no-part, next-part, no-more}
 use Rattle.drag_sheet.proofs.Rows.{one-more}
 
 -- ---- what a filled row says, once the outcome is known
-pub filled-accepted : (m : Made) (row : List Float) → Filled m Accepted row → m ≡ cells row
+pub filled-accepted : (m : Made) (row : List Float) → Filled m Passed row → m ≡ cells row
 filled-accepted (cells xs) row h = ap cells (sym (h .1))
 filled-accepted (refused e) row h = let z : _≡_ {A = ℕ} 0 1 = cc in absurd (omega arith)
 
-pub filled-refused : (m : Made) (e : AeroError) (row : List Float) → Filled m (Refused e) row → m ≡ refused e
+pub filled-refused : (m : Made) (e : AeroError) (row : List Float) → Filled m (Failed e) row → m ≡ refused e
 filled-refused (cells xs) e row h = let o = h .0 in let z : _≡_ {A = ℕ} 0 1 = cc in absurd (omega arith)
 filled-refused (refused d) e row h = cc
 
-pub refused-filled : (m : Made) (e : AeroError) (row : List Float) → m ≡ refused e → Filled m (Refused e) row
+pub refused-filled : (m : Made) (e : AeroError) (row : List Float) → m ≡ refused e → Filled m (Failed e) row
 refused-filled m e row p = rw p refl
 
 -- ---- zeros

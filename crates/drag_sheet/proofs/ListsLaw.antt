@@ -10,15 +10,13 @@ use Rattle.aero_error.specs.declared.Check.{Check}
 use Rattle.aero_error.specs.declared.Check.the-variants.{Passed, Failed}
 use Rattle.drag_sheet.specs.declared.Settings.{Settings}
 use Rattle.drag_sheet.specs.declared.Part.{Part}
-use Rattle.drag_sheet.specs.declared.Outcome.{Outcome}
-use Rattle.drag_sheet.specs.declared.Outcome.the-variants.{Accepted}
 use Rattle.drag_sheet.specs.Layout.{all-rows, part-rows, most-columns, written}
 use Rattle.drag_sheet.specs.Build.{cells, build, partsOf}
 use Rattle.drag_sheet.specs.declared.Sheet.{Sheet}
 use Rattle.drag_sheet.specs.declared.Answer.{Answer}
 use Rattle.drag_sheet.specs.Tests.{settingsTest}
 use Rattle.drag_sheet.specs.Calls.{Call, replace, insert, remove, column, insertAt, removeAt, settingsAfter, partsAfter, countAfter, sheetAfter, argumentsTest, rowsTest, callTest, tried, rowAt, nextRow, oneColumn, madeCells, cellsAfter, decision, sheetDecision, answered, chosen, Called, Opened, opened, emptySlots}
-use Rattle.drag_sheet.specs.Model.{Model, openedModel, modelDecision, moved, modelAfter, modelAnswers, outcomeOf}
+use Rattle.drag_sheet.specs.Model.{Model, openedModel, modelDecision, moved, modelAfter, modelAnswers}
 use Rattle.drag_sheet.specs.Lists.{Run, stop, go, Arrays, Matches, Agrees}
 use Rattle.drag_sheet.proofs.Answers.{then-passed, settings-facts, decided, room-of, insert-arguments, remove-arguments, replace-arguments, column-arguments, bare}
 use Rattle.drag_sheet.proofs.Slots.{inserted-long, removed-long, parts-inserted, parts-removed}
@@ -138,11 +136,11 @@ kept lent C sheet xs call k p =
 
 -- what is kept, where the model goes, and the answer
 step : (lent : List Float) (C : ℕ) (sheet : Sheet) (xs : List Float) (call : Call) (r : Answer) (ys : List Float) → Kept lent C sheet xs → Called call sheet xs r ys
-    → Kept lent C (r .sheet) ys × (modelOf (r .sheet) ≡ moved (modelDecision (length lent) call (modelOf sheet)) call (modelOf sheet)) × (r .outcome ≡ outcomeOf (modelDecision (length lent) call (modelOf sheet)))
+    → Kept lent C (r .sheet) ys × (modelOf (r .sheet) ≡ moved (modelDecision (length lent) call (modelOf sheet)) call (modelOf sheet)) × (r .outcome ≡ modelDecision (length lent) call (modelOf sheet))
 step lent C sheet xs call r ys k c = by (verdict call sheet xs r ys c)
   where
     by : Verdict call sheet xs r ys
-        → Kept lent C (r .sheet) ys × (modelOf (r .sheet) ≡ moved (modelDecision (length lent) call (modelOf sheet)) call (modelOf sheet)) × (r .outcome ≡ outcomeOf (modelDecision (length lent) call (modelOf sheet)))
+        → Kept lent C (r .sheet) ys × (modelOf (r .sheet) ≡ moved (modelDecision (length lent) call (modelOf sheet)) call (modelOf sheet)) × (r .outcome ≡ modelDecision (length lent) call (modelOf sheet))
     by (accepted p a l) =
         let b = kept lent C sheet xs call k p in
         rw (sym (same-decision lent C sheet xs call k), p, a, l) (b .0, ap (λ (ps : List Part). record { settings = settingsAfter call (sheet .settings); parts = ps }) (b .1), refl)
@@ -150,7 +148,7 @@ step lent C sheet xs call r ys k c = by (verdict call sheet xs r ys c)
 
 -- ---- a list of calls
 
-runs : (lent : List Float) (C : ℕ) {sheet last : Sheet} {xs zs : List Float} {calls : List Call} {outcomes : List Outcome} → Kept lent C sheet xs → Run sheet xs calls last zs outcomes
+runs : (lent : List Float) (C : ℕ) {sheet last : Sheet} {xs zs : List Float} {calls : List Call} {outcomes : List Check} → Kept lent C sheet xs → Run sheet xs calls last zs outcomes
     → Kept lent C last zs × (modelOf last ≡ modelAfter (length lent) calls (modelOf sheet)) × (outcomes ≡ modelAnswers (length lent) calls (modelOf sheet))
 unfolding modelAfter modelAnswers
 runs lent C k stop = (k, refl, refl)
@@ -161,12 +159,12 @@ runs lent C {sheet} {last} {xs} k (go {ys} {call} {calls} {r} c rest) =
 
 -- ---- an accepted open
 
-passed : (d : Check) (s : Settings) (slots : List Part) (r : Answer) → r ≡ answered d (opened s slots) (opened s slots) → r .outcome ≡ Accepted → d ≡ Passed
+passed : (d : Check) (s : Settings) (slots : List Part) (r : Answer) → r ≡ answered d (opened s slots) (opened s slots) → r .outcome ≡ Passed → d ≡ Passed
 passed Passed s slots r e a = refl
 passed (Failed x) s slots r e a = let b = sym (ap (λ (q : Answer). q .outcome) e) ∙ a in let z : _≡_ {A = ℕ} 0 1 = cc in absurd (omega arith)
 
 opens : (s : Settings) (xs : List Float) (r : Answer) (ys : List Float) → length (s .machs) ≡ most-columns → length (s .reynolds) ≡ most-columns
-    → Opened s emptySlots xs r ys → r .outcome ≡ Accepted → Kept xs (s .count) (r .sheet) ys × (r .sheet ≡ opened s emptySlots)
+    → Opened s emptySlots xs r ys → r .outcome ≡ Passed → Kept xs (s .count) (r .sheet) ys × (r .sheet ≡ opened s emptySlots)
 opens s xs r ys m n o a =
     let p = passed (settingsTest s (length xs)) s emptySlots r (o .answer) a in
     let f = settings-facts s (length xs) p in
@@ -188,9 +186,9 @@ opens s xs r ys m n o a =
     (subst (λ (x : Sheet). Kept xs (s .count) x ys) (sym t) (subst (λ (zs : List Float). Kept xs (s .count) (opened s emptySlots) zs) (sym l) k), t)
 
 -- Demand 3: from an accepted open with whatever settings and cells, for every list of calls. The two lengths are those of the arrays of every `Settings`.
-pub lists-agree : (s : Settings) (xs : List Float) (r : Answer) (ys : List Float) {calls : List Call} {last : Sheet} {zs : List Float} {outcomes : List Outcome}
+pub lists-agree : (s : Settings) (xs : List Float) (r : Answer) (ys : List Float) {calls : List Call} {last : Sheet} {zs : List Float} {outcomes : List Check}
     → length (s .machs) ≡ most-columns → length (s .reynolds) ≡ most-columns
-    → Opened s emptySlots xs r ys → r .outcome ≡ Accepted → Run (r .sheet) ys calls last zs outcomes → Agrees xs (openedModel s) calls last zs outcomes
+    → Opened s emptySlots xs r ys → r .outcome ≡ Passed → Run (r .sheet) ys calls last zs outcomes → Agrees xs (openedModel s) calls last zs outcomes
 lists-agree s xs r ys {calls} {last} {zs} {outcomes} m n o a run =
     let k = opens s xs r ys m n o a in
     let b = runs xs (s .count) (k .0) run in

@@ -10,7 +10,8 @@ use lib.Ieee.{Float, nan}
 use Rattle.aero_error.specs.declared.Check.the-variants.{Passed}
 use Rattle.drag_sheet.specs.declared.Part.{Part}
 use Rattle.drag_sheet.proofs.Parts.{no-part, next-part, no-more}
-use Rattle.drag_sheet.specs.Tests.{_then_, columnTest, columnsTest, partTest, partsTest}
+use Rattle.aero_error.specs.Checks.{_then_}
+use Rattle.drag_sheet.specs.Tests.{columnTest, columnsTest, partTest, partsTest}
 
 -- the number at i of the first n, and those after it
 next-number : (n i : ℕ) (xs : List Float) → n ≤ length xs → i < n → drop i (take n xs) ≡ getD xs i nan ∷ drop (i + 1) (take n xs)

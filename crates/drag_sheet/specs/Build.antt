@@ -15,8 +15,8 @@ use Rattle.drag_sheet.specs.declared.Design.{Design}
 use Rattle.drag_sheet.specs.declared.Row.{Row}
 use Rattle.drag_sheet.specs.declared.Prepared.{Prepared}
 use Rattle.drag_sheet.specs.declared.Prepared.the-variants.{Ready, Refused as NotReady}
-use Rattle.drag_sheet.specs.declared.Outcome.{Outcome}
-use Rattle.drag_sheet.specs.declared.Outcome.the-variants.{Accepted, Refused}
+use Rattle.aero_error.specs.declared.Check.{Check}
+use Rattle.aero_error.specs.declared.Check.the-variants.{Passed, Failed}
 use Rattle.drag_sheet.specs.Layout.{rows, written, part-rows, base-row, summed-rows, all-rows}
 use Rattle.drag_sheet.specs.Formulas.{preparedOf, cellOf, valueOf, bodyCell, wettedFrom, lastFrom}
 use Rattle.drag.specs.Friction.{bodyFrictionFormFactor}
@@ -38,9 +38,9 @@ cellThen (Value v) rest = after (v ∷ []) rest
 cellThen (NoValue e) rest = refused e
 
 -- what a function that fills lent cells says of them: all is made, or the refusal. Nothing is said of the cells of a refused row
-abbrev pub Filled : Made → Outcome → List Float → Type 0
-Filled (cells xs) outcome lent = (outcome ≡ Accepted) × (lent ≡ xs)
-Filled (refused e) outcome lent = outcome ≡ Refused e
+abbrev pub Filled : Made → Check → List Float → Type 0
+Filled (cells xs) outcome lent = (outcome ≡ Passed) × (lent ≡ xs)
+Filled (refused e) outcome lent = outcome ≡ Failed e
 
 -- a row's cells, by column from 0
 unfoldable pub cellsOf : Row → List Float → Made

@@ -7,21 +7,20 @@ use lib.ListN.{length, take, drop, set, replicate}
 use lib.Dec.{ltb, leb}
 use lib.Ieee.{Float}
 use Rattle.elementary.specs.Constants.{0·0}
-use Rattle.aero_error.specs.declared.AeroError.the-variants.{NoSuchPlace, DesignFull}
+use Rattle.aero_error.specs.declared.Rule.the-variants.{NoSuchPlace, DesignFull}
 use Rattle.aero_error.specs.declared.Check.{Check}
 use Rattle.aero_error.specs.declared.Check.the-variants.{Passed, Failed}
 use Rattle.shapes.specs.declared.NoseShape.the-variants.{Conical}
 use Rattle.drag_sheet.specs.declared.Settings.{Settings}
 use Rattle.drag_sheet.specs.declared.Part.{Part}
 use Rattle.drag_sheet.specs.declared.Design.{Design}
-use Rattle.drag_sheet.specs.declared.Outcome.{Outcome}
-use Rattle.drag_sheet.specs.declared.Outcome.the-variants.{Accepted, Refused}
 use Rattle.drag_sheet.specs.Layout.{part-rows, written}
 use Rattle.drag_sheet.specs.Formulas.{lastFrom}
 use Rattle.drag_sheet.specs.Build.{Made, cells, refused, partRow, build, finished, machsOf, partsOf}
 use Rattle.drag_sheet.specs.declared.Sheet.{Sheet}
 use Rattle.drag_sheet.specs.declared.Answer.{Answer}
-use Rattle.drag_sheet.specs.Tests.{_then_, unless, columnTest, settingsTest, partTest, sheetTest}
+use Rattle.aero_error.specs.Checks.{_then_, unless}
+use Rattle.drag_sheet.specs.Tests.{columnTest, settingsTest, partTest, sheetTest}
 
 -- what is asked of a sheet
 pub data Call : Type 0 where
@@ -122,15 +121,15 @@ madeCells (cells xs) = xs
 madeCells (refused e) = []
 
 -- what a function that writes all rows, or none, says of its outcome and of the cells before (xs) and after (ys)
-abbrev pub Wrote : Made → Outcome → List Float → List Float → Type 0
-Wrote (cells vs) outcome xs ys = (outcome ≡ Accepted) × (ys ≡ written 0 vs xs)
-Wrote (refused e) outcome xs ys = (outcome ≡ Refused e) × (ys ≡ xs)
+abbrev pub Wrote : Made → Check → List Float → List Float → Type 0
+Wrote (cells vs) outcome xs ys = (outcome ≡ Passed) × (ys ≡ written 0 vs xs)
+Wrote (refused e) outcome xs ys = (outcome ≡ Failed e) × (ys ≡ xs)
 
 -- what a function that makes the two rows of a replaced part says: of its outcome and of the rows that it fills
-abbrev pub BothMade : Made → Made → Outcome → List Float → List Float → Type 0
-BothMade (refused e) next outcome own' next' = outcome ≡ Refused e
-BothMade (cells xs) (refused e) outcome own' next' = outcome ≡ Refused e
-BothMade (cells xs) (cells ys) outcome own' next' = (outcome ≡ Accepted) × (own' ≡ xs) × (next' ≡ ys)
+abbrev pub BothMade : Made → Made → Check → List Float → List Float → Type 0
+BothMade (refused e) next outcome own' next' = outcome ≡ Failed e
+BothMade (cells xs) (refused e) outcome own' next' = outcome ≡ Failed e
+BothMade (cells xs) (cells ys) outcome own' next' = (outcome ≡ Passed) × (own' ≡ xs) × (next' ≡ ys)
 
 -- a design with the part at a place put anew
 abbrev pub replacedIn : Design → ℕ → Part → Design
@@ -184,13 +183,8 @@ sheetDecision call sheet lent = decision call (sheet .settings) lent (sheet .des
 
 -- accepted, with the sheet as the call leaves it; or refused, with the sheet that was given
 abbrev pub answered : Check → Sheet → Sheet → Answer
-answered Passed given after = record { outcome = Accepted; sheet = after }
-answered (Failed e) given after = record { outcome = Refused e; sheet = given }
-
--- the same by what it came to
-abbrev pub answerFor : Outcome → Sheet → Sheet → Answer
-answerFor Accepted given after = record { outcome = Accepted; sheet = after }
-answerFor (Refused e) given after = record { outcome = Refused e; sheet = given }
+answered Passed given after = record { outcome = Passed; sheet = after }
+answered (Failed e) given after = record { outcome = Failed e; sheet = given }
 
 abbrev pub chosen : Check → List Float → List Float → List Float
 chosen Passed given after = after

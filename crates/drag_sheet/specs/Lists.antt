@@ -4,7 +4,7 @@ use mathlib.Core.List.{List, [], _∷_}
 use Prim.Native.Nat.{_*_}
 use lib.ListN.{length, take, drop}
 use lib.Ieee.{Float}
-use Rattle.drag_sheet.specs.declared.Outcome.{Outcome}
+use Rattle.aero_error.specs.declared.Check.{Check}
 use Rattle.drag_sheet.specs.Layout.{all-rows, part-rows, most-columns}
 use Rattle.drag_sheet.specs.Build.{cells, build, partsOf}
 use Rattle.drag_sheet.specs.declared.Sheet.{Sheet}
@@ -20,9 +20,9 @@ pub record Arrays (sheet : Sheet) : Type 0 where
 
 -- The program's calls one after the other, each given the sheet and the cells that the one before left. Every step is what that function's own contract says (`Called`).
 -- Run sheet xs calls sheet' ys outcomes: from the sheet and its cells to the sheet' and its cells, with the outcomes.
-pub data Run : Sheet → List Float → List Call → Sheet → List Float → List Outcome → Type 0 where
+pub data Run : Sheet → List Float → List Call → Sheet → List Float → List Check → Type 0 where
   stop : {sheet : Sheet} {xs : List Float} → Run sheet xs [] sheet xs []
-  go : {sheet last : Sheet} {xs ys zs : List Float} {call : Call} {calls : List Call} {r : Answer} {outcomes : List Outcome}
+  go : {sheet last : Sheet} {xs ys zs : List Float} {call : Call} {calls : List Call} {r : Answer} {outcomes : List Check}
       → Called call sheet xs r ys → Run (r .sheet) ys calls last zs outcomes → Run sheet xs (call ∷ calls) last zs (r .outcome ∷ outcomes)
 
 -- A sheet and its cells are what the model says: the rows are one build from nothing of the model, and the settings and the design are the model's.
@@ -33,7 +33,7 @@ pub record Matches (sheet : Sheet) (xs : List Float) (m : Model) : Type 0 where
   pub parts : partsOf (sheet .design) ≡ m .parts
 
 -- After a list of calls the sheet and the cells match the model, every call gave the model's answer, and the cells past the rows are those that were lent.
-pub record Agrees (lent : List Float) (start : Model) (calls : List Call) (sheet : Sheet) (xs : List Float) (outcomes : List Outcome) : Type 0 where
+pub record Agrees (lent : List Float) (start : Model) (calls : List Call) (sheet : Sheet) (xs : List Float) (outcomes : List Check) : Type 0 where
   pub matches : Matches sheet xs (modelAfter (length lent) calls start)
   pub answers : outcomes ≡ modelAnswers (length lent) calls start
   pub beyond : drop (all-rows * start .settings .count) xs ≡ drop (all-rows * start .settings .count) lent

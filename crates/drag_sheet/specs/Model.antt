@@ -7,8 +7,6 @@ use Rattle.aero_error.specs.declared.Check.{Check}
 use Rattle.aero_error.specs.declared.Check.the-variants.{Passed, Failed}
 use Rattle.drag_sheet.specs.declared.Settings.{Settings}
 use Rattle.drag_sheet.specs.declared.Part.{Part}
-use Rattle.drag_sheet.specs.declared.Outcome.{Outcome}
-use Rattle.drag_sheet.specs.declared.Outcome.the-variants.{Accepted, Refused}
 use Rattle.drag_sheet.specs.Calls.{Call, settingsAfter, partsAfter, decision}
 
 pub record Model : Type 0 where
@@ -33,12 +31,7 @@ unfoldable pub modelAfter : ℕ → List Call → Model → Model
 modelAfter lent [] m = m
 modelAfter lent (c ∷ cs) m = modelAfter lent cs (moved (modelDecision lent c m) c m)
 
--- "accepted, or the refusal's number, with 1's code and value"
-abbrev pub outcomeOf : Check → Outcome
-outcomeOf Passed = Accepted
-outcomeOf (Failed e) = Refused e
-
--- its answers, call by call
-unfoldable pub modelAnswers : ℕ → List Call → Model → List Outcome
+-- its answers, call by call: "accepted, or the refusal's number, with 1's code and value"
+unfoldable pub modelAnswers : ℕ → List Call → Model → List Check
 modelAnswers lent [] m = []
-modelAnswers lent (c ∷ cs) m = outcomeOf (modelDecision lent c m) ∷ modelAnswers lent cs (moved (modelDecision lent c m) c m)
+modelAnswers lent (c ∷ cs) m = modelDecision lent c m ∷ modelAnswers lent cs (moved (modelDecision lent c m) c m)

@@ -9,18 +9,18 @@ use Rattle.elementary.specs.Arithmetic.{bits}
 use Rattle.elementary.specs.Constants.{0·0, 1·0, stored, nearest}
 use Rattle.drag.specs.Constants.{10000·0}
 use Rattle.aero_error.specs.declared.AeroError.{AeroError}
-use Rattle.aero_error.specs.declared.AeroError.the-variants.{TooManyColumns, DesignFull, TooFewCells, OutsideInterval}
+use Rattle.aero_error.specs.declared.AeroError.the-variants.{Broken}
+use Rattle.aero_error.specs.declared.Rule.the-variants.{TooManyColumns, DesignFull, TooFewCells, OutsideInterval}
 use Rattle.aero_error.specs.declared.Quantity.the-variants.{Reynolds, BodyFineness}
 use Rattle.aero_error.specs.declared.Check.{Check}
 use Rattle.aero_error.specs.declared.Check.the-variants.{Passed, Failed}
-use Rattle.aero_error.specs.Checks.{required, dimension, between}
+use Rattle.aero_error.specs.Checks.{_then_, unless, required, dimension, between}
 use Rattle.drag.specs.Friction.{machChecked}
 use Rattle.drag_sheet.specs.declared.Settings.{Settings}
 use Rattle.drag_sheet.specs.declared.Part.{Part}
 use Rattle.drag_sheet.specs.Layout.{part-rows, all-rows, most-columns}
 use Rattle.drag_sheet.specs.Build.{machsOf, reynoldsOf}
 
-infixr 20 _then_
 -- 0.001 and 100, ends of the house intervals
 abbrev pub 0·001 : Float
 0·001 = bits 0x3f50_624d_d2f1_a9fc
@@ -36,19 +36,9 @@ pub constants-nearest : map stored house-ends ≡ map nearest house-ends
 unfolding round ofBits
 constants-nearest = refl
 
--- one test after another
-abbrev pub _then_ : Check → Check → Check
-Passed then next = next
-Failed refusal then next = Failed refusal
-
--- a test on numbers, and its refusal
-abbrev pub unless : Bool → AeroError → Check
-unless true refusal = Failed refusal
-unless false refusal = Passed
-
 -- 11: outside a house interval, NaN too
 abbrev pub inInterval : Float → Float → Float → Check
-inInterval low x high = cond (between low x high) Passed (Failed OutsideInterval)
+inInterval low x high = cond (between low x high) Passed (Failed (Broken OutsideInterval))
 
 -- 1 for each column: M, then R
 abbrev pub columnTest : Float → Float → Check

@@ -13,12 +13,15 @@ ghost use Rattle.drag_sheet.specs.Formulas.{preparedOf, cellOf, valueOf,
 ghost use Rattle.drag_sheet.specs.Ready.{readyOf, readyCell};
 ghost use Rattle.drag_sheet.specs.Build.{cellsOf, partRow, partRowsFrom, partsOf, frictionOf, baseOf, bodyRow, padded, columnwise, machsOf, reynoldsOf, totalRow, finished, build, Filled};
 ghost use mathlib.Core.List.{_++_};
-ghost use Rattle.drag_sheet.specs.Tests.{_then_, unless, inInterval, columnTest, columnsTest, bodyTest, settingsTest, partTest, partsTest, sheetTest};
-ghost use Rattle.drag_sheet.specs.Calls.{insertAt, removeAt, insert as insertCall, remove as removeCall, replace as replaceCall, column as columnCall, oneColumn, withColumn, rowAt, nextRow, nextWidth, replacedIn, BothMade, columnWritten, answerFor, callTest, Called, Opened, Wrote, emptySlots};
+ghost use Rattle.drag_sheet.specs.Tests.{inInterval, columnTest, columnsTest, bodyTest, settingsTest, partTest, partsTest, sheetTest};
+ghost use Rattle.drag_sheet.specs.Calls.{insertAt, removeAt, insert as insertCall, remove as removeCall, replace as replaceCall, column as columnCall, oneColumn, withColumn, rowAt, nextRow, nextWidth, replacedIn, BothMade, columnWritten, answered, callTest, Called, Opened, Wrote, emptySlots};
 use aero_error::AeroError;
 use aero_error::Check;
 use aero_error::Coefficient;
 use aero_error::Quantity;
+use aero_error::Rule;
+use aero_error::then;
+use aero_error::unless;
 use drag::Wall;
 use nose_drag::Curve;
 use nose_drag::PressureDragCurve;
@@ -67,12 +70,6 @@ pub struct Part {
 pub struct Design {
     pub count: usize,
     pub parts: [Part; PARTS],
-}
-
-// What a call came to.
-pub enum Outcome {
-    Accepted,
-    Refused(AeroError),
 }
 
 // What a part's row is made from: a part that widens has a curve, one that narrows takes its share
@@ -240,7 +237,7 @@ fn body_cell(row: ReadyRow, mach: f64, reynolds: f64) -> f64
 }
 
 // Fills `out` with a part's cells, one for each Mach number, or stops at the first that is refused.
-fn fill_row(row: Row, machs: &[f64], out: &mut [f64]) -> Outcome
+fn fill_row(row: Row, machs: &[f64], out: &mut [f64]) -> Check
     requires { ⌜ length (now machs) ≡ length (now out) ⌝ }
     ensures { λ r. ⌜ Filled (cellsOf row (now (machs .entry))) r (now (out .exit)) ⌝ }
 {
@@ -248,11 +245,11 @@ fn fill_row(row: Row, machs: &[f64], out: &mut [f64]) -> Outcome
     while i < machs.len() {
         match cell(row, machs[i]) {
             Coefficient::Value(v) => out[i] = v,
-            Coefficient::Refused(e) => return Outcome::Refused(e),
+            Coefficient::Refused(e) => return Check::Failed(e),
         }
         i += 1;
     }
-    Outcome::Accepted
+    Check::Passed
 }
 
 // Fills `out` with a whole body's row.
@@ -405,7 +402,7 @@ fn finish(settings: Settings, design: Design, cells: &mut [f64])
 }
 
 // The row of a part after one with the aft diameter `fore`, into `out`, one cell for each column.
-fn part_row(settings: Settings, fore: f64, part: Part, out: &mut [f64]) -> Outcome
+fn part_row(settings: Settings, fore: f64, part: Part, out: &mut [f64]) -> Check
     requires { ⌜ (settings .count ≤ 32) × (length (now out) ≡ settings .count) ⌝ }
     ensures { λ r. ⌜ Filled (partRow (settings .«reference_diameter») (machsOf settings) fore part) r (now (out .exit)) ⌝ }
 {
@@ -414,13 +411,13 @@ fn part_row(settings: Settings, fore: f64, part: Part, out: &mut [f64]) -> Outco
     let prepared = prepare(settings.reference_diameter, fore, part);
     match prepared {
         Prepared::Ready(row) => fill_row(row, &machs[..count], out),
-        Prepared::Refused(refusal) => Outcome::Refused(refusal),
+        Prepared::Refused(refusal) => Check::Failed(refusal),
     }
 }
 
 // The rows of a design's parts, one after the other, into cells that hold +0; the places without a
 // part keep it. It stops at the lowest place that cannot be built.
-fn part_rows(settings: Settings, design: Design, cells: &mut [f64]) -> Outcome
+fn part_rows(settings: Settings, design: Design, cells: &mut [f64]) -> Check
     requires { ⌜ (settings .count ≤ 32) × (design .count ≤ 16) × (now cells ≡ replicate (all-rows * settings .count) 0·0) ⌝ }
     ensures { λ r. ⌜ Filled (padded (all-rows * settings .count) (partRowsFrom (settings .«reference_diameter») (machsOf settings) 0·0 (partsOf design))) r (now (cells .exit)) ⌝ }
 {
@@ -434,27 +431,27 @@ fn part_rows(settings: Settings, design: Design, cells: &mut [f64]) -> Outcome
         let part = parts[place];
         let end = at + count;
         let outcome = part_row(settings, fore, part, &mut cells[at..end]);
-        let Outcome::Accepted = outcome else {
+        let Check::Passed = outcome else {
             return outcome;
         };
         fore = part.aft_diameter;
         at = end;
         place += 1;
     }
-    Outcome::Accepted
+    Check::Passed
 }
 
 // All rows of a sheet, built from nothing into cells that hold +0.
-fn build_rows(settings: Settings, design: Design, cells: &mut [f64]) -> Outcome
+fn build_rows(settings: Settings, design: Design, cells: &mut [f64]) -> Check
     requires { ⌜ (settings .count ≤ 32) × (design .count ≤ 16) × (now cells ≡ replicate (all-rows * settings .count) 0·0) ⌝ }
     ensures { λ r. ⌜ Filled (build settings (partsOf design)) r (now (cells .exit)) ⌝ }
 {
     let outcome = part_rows(settings, design, cells);
-    let Outcome::Accepted = outcome else {
+    let Check::Passed = outcome else {
         return outcome;
     };
     finish(settings, design, cells);
-    Outcome::Accepted
+    Check::Passed
 }
 
 // A sheet: the settings, and the design that is looked at under them.
@@ -465,32 +462,11 @@ pub struct Sheet {
 
 // A call's answer: what it came to, and the sheet handed back.
 pub struct Answer {
-    pub outcome: Outcome,
+    pub outcome: Check,
     pub sheet: Sheet,
 }
 
 // ---- the tests, in document 01's order
-
-// One test after another.
-fn then(first: Check, next: Check) -> Check
-    ensures { λ r. ⌜ r ≡ (first then next) ⌝ }
-{
-    match first {
-        Check::Passed => next,
-        Check::Failed(e) => Check::Failed(e),
-    }
-}
-
-// A refusal where something holds.
-fn unless(failed: bool, refusal: AeroError) -> Check
-    ensures { λ r. ⌜ r ≡ unless failed refusal ⌝ }
-{
-    if failed {
-        Check::Failed(refusal)
-    } else {
-        Check::Passed
-    }
-}
 
 // A house interval, both ends in it.
 fn in_interval(low: f64, x: f64, high: f64) -> Check
@@ -499,7 +475,7 @@ fn in_interval(low: f64, x: f64, high: f64) -> Check
     if aero_error::is_between(low, x, high) {
         Check::Passed
     } else {
-        Check::Failed(AeroError::OutsideInterval)
+        Check::Failed(AeroError::Broken(Rule::OutsideInterval))
     }
 }
 
@@ -549,14 +525,14 @@ fn check_settings(settings: Settings, lent: usize) -> Check
 {
     let count = settings.count;
     if COLUMNS < count {
-        return Check::Failed(AeroError::TooManyColumns);
+        return Check::Failed(AeroError::Broken(Rule::TooManyColumns));
     }
     let check = then(check_body(settings), check_columns(settings));
     let Check::Passed = check else {
         return check;
     };
     if lent < ROWS * count {
-        return Check::Failed(AeroError::TooFewCells);
+        return Check::Failed(AeroError::Broken(Rule::TooFewCells));
     }
     Check::Passed
 }
@@ -603,7 +579,7 @@ fn check_sheet(sheet: Sheet, lent: usize) -> Check
         return check;
     };
     if PARTS < count {
-        return Check::Failed(AeroError::DesignFull);
+        return Check::Failed(AeroError::Broken(Rule::DesignFull));
     }
     check_parts(design)
 }
@@ -651,7 +627,7 @@ fn write_row(at: usize, row: &[f64], cells: &mut [f64])
 }
 
 // Builds a sheet from nothing and writes all its rows, or leaves the cells as they are.
-fn write_all(settings: Settings, design: Design, cells: &mut [f64]) -> Outcome
+fn write_all(settings: Settings, design: Design, cells: &mut [f64]) -> Check
     requires { ⌜ (settings .count ≤ 32) × (design .count ≤ 16) × (all-rows * settings .count ≤ length (now cells)) ⌝ }
     ensures { λ r. ⌜ Wrote (build settings (partsOf design)) r (now (cells .entry)) (now (cells .exit)) ⌝ }
 {
@@ -659,7 +635,7 @@ fn write_all(settings: Settings, design: Design, cells: &mut [f64]) -> Outcome
     let count = settings.count;
     let all = ROWS * count;
     let outcome = build_rows(settings, design, &mut scratch[..all]);
-    let Outcome::Accepted = outcome else {
+    let Check::Passed = outcome else {
         return outcome;
     };
     write_row(0, &scratch[..all], cells);
@@ -683,16 +659,16 @@ fn write_column(column: usize, count: usize, values: &[f64], cells: &mut [f64])
 // ---- the calls
 
 // A call's answer: refused, it hands back the sheet that it was given.
-fn answer_for(outcome: Outcome, given: Sheet, after: Sheet) -> Answer
-    ensures { λ r. ⌜ r ≡ answerFor outcome given after ⌝ }
+fn answer_for(outcome: Check, given: Sheet, after: Sheet) -> Answer
+    ensures { λ r. ⌜ r ≡ answered outcome given after ⌝ }
 {
     match outcome {
-        Outcome::Accepted => Answer {
-            outcome: Outcome::Accepted,
+        Check::Passed => Answer {
+            outcome: Check::Passed,
             sheet: after,
         },
-        Outcome::Refused(e) => Answer {
-            outcome: Outcome::Refused(e),
+        Check::Failed(e) => Answer {
+            outcome: Check::Failed(e),
             sheet: given,
         },
     }
@@ -717,7 +693,7 @@ pub fn open(settings: Settings, cells: &mut [f64]) -> Answer
     let check = check_settings(settings, cells.len());
     if let Check::Failed(e) = check {
         return Answer {
-            outcome: Outcome::Refused(e),
+            outcome: Check::Failed(e),
             sheet,
         };
     }
@@ -732,11 +708,8 @@ fn check_insert(sheet: Sheet, place: usize, part: Part, lent: usize) -> Check
     then(
         check_sheet(sheet, lent),
         then(
-            unless(count < place, AeroError::NoSuchPlace),
-            then(
-                unless(PARTS <= count, AeroError::DesignFull),
-                check_part(part),
-            ),
+            unless(count < place, Rule::NoSuchPlace),
+            then(unless(PARTS <= count, Rule::DesignFull), check_part(part)),
         ),
     )
 }
@@ -748,7 +721,7 @@ pub fn insert(sheet: Sheet, place: usize, part: Part, cells: &mut [f64]) -> Answ
     let check = check_insert(sheet, place, part, cells.len());
     if let Check::Failed(e) = check {
         return Answer {
-            outcome: Outcome::Refused(e),
+            outcome: Check::Failed(e),
             sheet,
         };
     }
@@ -770,7 +743,7 @@ fn check_remove(sheet: Sheet, place: usize, lent: usize) -> Check
     let count = sheet.design.count;
     then(
         check_sheet(sheet, lent),
-        unless(count <= place, AeroError::NoSuchPlace),
+        unless(count <= place, Rule::NoSuchPlace),
     )
 }
 
@@ -781,7 +754,7 @@ pub fn remove(sheet: Sheet, place: usize, cells: &mut [f64]) -> Answer
     let check = check_remove(sheet, place, cells.len());
     if let Check::Failed(e) = check {
         return Answer {
-            outcome: Outcome::Refused(e),
+            outcome: Check::Failed(e),
             sheet,
         };
     }
@@ -804,7 +777,7 @@ fn check_set_column(sheet: Sheet, column: usize, mach: f64, reynolds: f64, lent:
     then(
         check_sheet(sheet, lent),
         then(
-            unless(count <= column, AeroError::NoSuchPlace),
+            unless(count <= column, Rule::NoSuchPlace),
             check_column(mach, reynolds),
         ),
     )
@@ -848,7 +821,7 @@ pub fn set_column(
     let check = check_set_column(sheet, column, mach, reynolds, cells.len());
     if let Check::Failed(e) = check {
         return Answer {
-            outcome: Outcome::Refused(e),
+            outcome: Check::Failed(e),
             sheet,
         };
     }
@@ -856,9 +829,9 @@ pub fn set_column(
     let design = sheet.design;
     let mut values = [0.0; ROWS];
     let outcome = build_rows(one_column(settings, mach, reynolds), design, &mut values);
-    if let Outcome::Refused(e) = outcome {
+    if let Check::Failed(e) = outcome {
         return Answer {
-            outcome: Outcome::Refused(e),
+            outcome: Check::Failed(e),
             sheet,
         };
     }
@@ -866,7 +839,7 @@ pub fn set_column(
     write_column(column, count, &values, cells);
     let settings = with_column(settings, column, mach, reynolds);
     Answer {
-        outcome: Outcome::Accepted,
+        outcome: Check::Passed,
         sheet: Sheet { settings, design },
     }
 }
@@ -877,10 +850,7 @@ fn check_replace(sheet: Sheet, place: usize, part: Part, lent: usize) -> Check
     let count = sheet.design.count;
     then(
         check_sheet(sheet, lent),
-        then(
-            unless(count <= place, AeroError::NoSuchPlace),
-            check_part(part),
-        ),
+        then(unless(count <= place, Rule::NoSuchPlace), check_part(part)),
     )
 }
 
@@ -893,13 +863,7 @@ fn next_width(settings: Settings, count: usize, place: usize) -> usize
 }
 
 // The row after a replaced part, where a part follows.
-fn next_row(
-    settings: Settings,
-    design: Design,
-    place: usize,
-    part: Part,
-    out: &mut [f64],
-) -> Outcome
+fn next_row(settings: Settings, design: Design, place: usize, part: Part, out: &mut [f64]) -> Check
     requires { ⌜ (settings .count ≤ 32) × (design .count ≤ 16) × (place < 16) × (length (now out) ≡ nextWidth settings (design .count) place) ⌝ }
     ensures { λ r. ⌜ Filled (nextRow settings part (drop (place + 1) (partsOf design))) r (now (out .exit)) ⌝ }
 {
@@ -909,18 +873,12 @@ fn next_row(
         let parts = design.parts;
         part_row(settings, part.aft_diameter, parts[next], out)
     } else {
-        Outcome::Accepted
+        Check::Passed
     }
 }
 
 // The two rows that change with a part's place: its own, and the next part's.
-fn changed_rows(
-    sheet: Sheet,
-    place: usize,
-    part: Part,
-    own: &mut [f64],
-    next: &mut [f64],
-) -> Outcome
+fn changed_rows(sheet: Sheet, place: usize, part: Part, own: &mut [f64], next: &mut [f64]) -> Check
     requires { ⌜ (sheet .settings .count ≤ 32) × (sheet .design .count ≤ 16) × (place < 16) × (length (now own) ≡ sheet .settings .count) × (length (now next) ≡ nextWidth (sheet .settings) (sheet .design .count) place) ⌝ }
     ensures { λ r. ⌜ BothMade (rowAt (sheet .settings) (sheet .design .parts) place part) (nextRow (sheet .settings) part (drop (place + 1) (partsOf (sheet .design)))) r (now (own .exit)) (now (next .exit)) ⌝ }
 {
@@ -928,7 +886,7 @@ fn changed_rows(
     let design = sheet.design;
     let fore = fore_diameter(design, place);
     let outcome = part_row(settings, fore, part, own);
-    let Outcome::Accepted = outcome else {
+    let Check::Passed = outcome else {
         return outcome;
     };
     next_row(settings, design, place, part, next)
@@ -970,7 +928,7 @@ pub fn replace(sheet: Sheet, place: usize, part: Part, cells: &mut [f64]) -> Ans
     let check = check_replace(sheet, place, part, cells.len());
     if let Check::Failed(e) = check {
         return Answer {
-            outcome: Outcome::Refused(e),
+            outcome: Check::Failed(e),
             sheet,
         };
     }
@@ -981,9 +939,9 @@ pub fn replace(sheet: Sheet, place: usize, part: Part, cells: &mut [f64]) -> Ans
     let mut own = [0.0; COLUMNS];
     let mut next = [0.0; COLUMNS];
     let outcome = changed_rows(sheet, place, part, &mut own[..count], &mut next[..width]);
-    if let Outcome::Refused(e) = outcome {
+    if let Check::Failed(e) = outcome {
         return Answer {
-            outcome: Outcome::Refused(e),
+            outcome: Check::Failed(e),
             sheet,
         };
     }
@@ -997,7 +955,7 @@ pub fn replace(sheet: Sheet, place: usize, part: Part, cells: &mut [f64]) -> Ans
         cells,
     );
     Answer {
-        outcome: Outcome::Accepted,
+        outcome: Check::Passed,
         sheet: Sheet { settings, design },
     }
 }

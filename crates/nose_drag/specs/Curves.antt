@@ -5,7 +5,8 @@ use lib.Ieee.Scale.{finite}
 use Rattle.elementary.specs.Arithmetic.{_⊕_, _⊖_, _⊗_, _⊘_, _≺_, _≼_, _≈_}
 use Rattle.elementary.specs.Steps.{LN}
 use Rattle.elementary.specs.Constants.{«LN_2», 0·0, 0·5, 1·0}
-use Rattle.aero_error.specs.declared.AeroError.the-variants.{OgiveRadiusRatio, HaackAboveThird}
+use Rattle.aero_error.specs.declared.AeroError.the-variants.{Broken}
+use Rattle.aero_error.specs.declared.Rule.the-variants.{OgiveRadiusRatio, HaackAboveThird}
 use Rattle.aero_error.specs.declared.Check.{Check}
 use Rattle.aero_error.specs.declared.Check.the-variants.{Passed, Failed}
 use Rattle.aero_error.specs.declared.Coefficient.{Coefficient}
@@ -123,7 +124,7 @@ unfoldable pub ogive : Float → Float → Float → Curve
 ogive rest f radius-ratio =
     cond (finite radius-ratio && 1·0 ≼ radius-ratio)
     (ogivePressureDragFactor (1·0 ⊘ radius-ratio) for-curve λ factor. Curve.Built (coneCurve rest f factor))
-    (Curve.Refused OgiveRadiusRatio)
+    (Curve.Refused (Broken OgiveRadiusRatio))
 
 unfoldable pub power : Float → Float → Float → Curve
 power rest f n = required (between 0·0 n 1·0) PowerExponent n then-curve Curve.Built (betweenReferences rest f (powerBracket n) n)
@@ -135,7 +136,7 @@ parabolic rest f k = required (between 0·0 k 1·0) ParabolicParameter k then-cu
 unfoldable pub haack : Float → Float → Float → Curve
 haack rest f c =
     cond (one-third ≺ c)
-    (Curve.Refused HaackAboveThird)
+    (Curve.Refused (Broken HaackAboveThird))
     (required (between 0·0 c one-third) HaackParameter c then-curve
     Curve.Built (interpolated rest f (Reference.Stoney VonKarman) (Reference.Stoney LvHaack) (3·0 ⊗ c)))
 

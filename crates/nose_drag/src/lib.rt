@@ -18,6 +18,7 @@ use aero_error::AeroError;
 use aero_error::Check;
 use aero_error::Coefficient;
 use aero_error::Quantity;
+use aero_error::Rule;
 use aero_error::check_dimension;
 use aero_error::is_between;
 use aero_error::is_finite;
@@ -890,7 +891,7 @@ fn ogive(rest: f64, fineness_ratio: f64, radius_ratio: f64) -> Curve
             };
         }
     }
-    Curve::Refused(AeroError::OgiveRadiusRatio)
+    Curve::Refused(AeroError::Broken(Rule::OgiveRadiusRatio))
 }
 
 fn power(rest: f64, fineness_ratio: f64, n: f64) -> Curve
@@ -919,7 +920,7 @@ fn haack(rest: f64, fineness_ratio: f64, c: f64) -> Curve
     ensures { λ r. ⌜ r ≡ haackOf rest «fineness_ratio» c ⌝ }
 {
     if c > 1.0 / 3.0 {
-        return Curve::Refused(AeroError::HaackAboveThird);
+        return Curve::Refused(AeroError::Broken(Rule::HaackAboveThird));
     }
     let ok = is_between(0.0, c, 1.0 / 3.0);
     if let Check::Failed(refusal) = require(ok, Quantity::HaackParameter, c) {

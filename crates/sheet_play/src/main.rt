@@ -2,9 +2,9 @@
 // the cells with a build from nothing, bit by bit: the first 19 × C of them are that build of the sheet handed back, the others are
 // as they were before the call, and a refused call has changed none at all. Prints how many calls agree, and how many were accepted.
 ghost use Prim.Native.Nat.{_≤_};
+use aero_error::Check;
 use drag_sheet::Answer;
 use drag_sheet::Design;
-use drag_sheet::Outcome;
 use drag_sheet::Part;
 use drag_sheet::Settings;
 use drag_sheet::Sheet;
@@ -247,7 +247,7 @@ fn takes_parts(sheet: Sheet, design: Design, cells: &mut [f64]) -> bool {
     while place < held {
         let answer = drag_sheet::insert(now, place, parts[place], cells);
         let outcome = answer.outcome;
-        let Outcome::Accepted = outcome else {
+        let Check::Passed = outcome else {
             return false;
         };
         now = answer.sheet;
@@ -260,7 +260,7 @@ fn takes_parts(sheet: Sheet, design: Design, cells: &mut [f64]) -> bool {
 fn builds(settings: Settings, design: Design, cells: &mut [f64]) -> bool {
     let opened = drag_sheet::open(settings, cells);
     let outcome = opened.outcome;
-    let Outcome::Accepted = outcome else {
+    let Check::Passed = outcome else {
         return false;
     };
     takes_parts(opened.sheet, design, cells)
@@ -290,10 +290,10 @@ fn is_built(sheet: Sheet, cells: &[f64], before: &[f64]) -> bool {
     false
 }
 
-fn is_accepted(outcome: Outcome) -> bool {
+fn is_accepted(outcome: Check) -> bool {
     match outcome {
-        Outcome::Accepted => true,
-        Outcome::Refused(_) => false,
+        Check::Passed => true,
+        Check::Failed(_) => false,
     }
 }
 

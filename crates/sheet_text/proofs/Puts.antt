@@ -13,9 +13,6 @@ use borrow.Author.Tests.{lt-ltb, le-ltb}
 use lib.Ieee.{Float, toBits, binary64}
 use Rattle.sheet_text.specs.Bytes.{hexDigit, hexDigits, decimal, Put}
 use Rattle.sheet_text.specs.Text.{numberText, numbersText, lineText, part-name, partName, partLines, printed, Printed, answerText}
-use Rattle.aero_error.specs.declared.AeroError.{AeroError}
-use Rattle.aero_error.specs.declared.AeroError.the-variants.{Domain, OgiveRadiusRatio, HaackAboveThird, CardEnds, ReservedBit, FieldMissing, TooManyColumns, NoSuchPlace, DesignFull, TooFewCells, OutsideInterval}
-use Rattle.aero_error.specs.Refusals.{numberOf}
 
 -- two texts, one after the other
 pub sets-append : (vs ws xs : List ℕ) (i : ℕ) → sets xs i (vs ++ ws) ≡ sets (sets xs i vs) (i + length vs) ws
@@ -175,20 +172,6 @@ module _ (n place C from : ℕ) (cells : List Float) where
   parts-length h = ap length (first-part h) ∙ length-append line rest
 
 -- ---- a whole text
-
--- a refusal's number has two digits at most
-pub number-small : (e : AeroError) → numberOf e < 100
-number-small (Domain what value) = omega arith
-number-small OgiveRadiusRatio = omega arith
-number-small HaackAboveThird = omega arith
-number-small CardEnds = omega arith
-number-small ReservedBit = omega arith
-number-small FieldMissing = omega arith
-number-small TooManyColumns = omega arith
-number-small NoSuchPlace = omega arith
-number-small DesignFull = omega arith
-number-small TooFewCells = omega arith
-number-small OutsideInterval = omega arith
 
 -- a buffer that is too short
 pub printed-short : (s xs : List ℕ) → length xs < 11033 → Printed s xs 0 xs

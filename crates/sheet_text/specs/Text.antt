@@ -9,8 +9,8 @@ use lib.Dec.{ltb}
 use lib.Ieee.{Float, toBits, binary64}
 use Rattle.elementary.specs.Constants.{0·0}
 use Rattle.aero_error.specs.Refusals.{numberOf}
-use Rattle.drag_sheet.specs.declared.Outcome.{Outcome}
-use Rattle.drag_sheet.specs.declared.Outcome.the-variants.{Accepted, Refused}
+use Rattle.aero_error.specs.declared.Check.{Check}
+use Rattle.aero_error.specs.declared.Check.the-variants.{Passed, Failed}
 use Rattle.drag_sheet.specs.Layout.{part-rows, base-row, summed-rows}
 use Rattle.drag_sheet.specs.Build.{machsOf}
 use Rattle.drag_sheet.specs.declared.Sheet.{Sheet}
@@ -85,9 +85,9 @@ unfoldable pub refusedText : ℕ → ℕ → List ℕ
 unfolding decimal
 refusedText n k = refused-name ++ (decimal n ++ (card-name ++ (decimal k ++ (line-feed ∷ []))))
 
-abbrev pub outcomeText : Outcome → ℕ → Sheet → List Float → List ℕ
-outcomeText Accepted card sheet xs = sheetText sheet xs
-outcomeText (Refused e) card sheet xs = refusedText (numberOf e) card
+abbrev pub outcomeText : Check → ℕ → Sheet → List Float → List ℕ
+outcomeText Passed card sheet xs = sheetText sheet xs
+outcomeText (Failed e) card sheet xs = refusedText (numberOf e) card
 
 -- the text of a run's answer, with the cells that it left
 abbrev pub runText : Run → List Float → List ℕ

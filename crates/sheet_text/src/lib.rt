@@ -5,12 +5,12 @@ ghost use mathlib.Core.List.{List, [], _∷_, _++_};
 ghost use Prim.Native.Nat.{_+_, _*_, _≤_, _<_};
 ghost use lib.ListN.{length, take, drop};
 ghost use lib.Ieee.{toBits, binary64};
-ghost use Rattle.drag_sheet.specs.declared.Outcome.the-variants.{Accepted};
+ghost use Rattle.aero_error.specs.declared.Check.the-variants.{Passed};
 ghost use Rattle.cards.specs.Run.{Sized};
 ghost use Rattle.sheet_text.specs.Bytes.{line-feed, hexDigit, hexDigits, decimal, Put};
 ghost use Rattle.sheet_text.specs.Text.{numberText, numbersText, lineText, partName, partLines, bodyText, sheetText, refusedText, runText, Printed};
+use aero_error::Check;
 use cards::Run;
-use drag_sheet::Outcome;
 use drag_sheet::Sheet;
 
 // ---- bytes and numbers
@@ -193,14 +193,14 @@ fn put_refusal(number: usize, card: usize, out: &mut [u8]) -> usize
 
 // The text of a run's answer.
 fn put_run(run: Run, cells: &[f64], out: &mut [u8]) -> usize
-    requires { ⌜ (run .card ≤ 17) × (run .outcome ≡ Accepted → Sized (run .sheet) (length (now cells))) × (11033 ≤ length (now out)) ⌝ }
+    requires { ⌜ (run .card ≤ 17) × (run .outcome ≡ Passed → Sized (run .sheet) (length (now cells))) × (11033 ≤ length (now out)) ⌝ }
     ensures { λ r. ⌜ Put 0 (runText run (now (cells .entry))) (now (out .entry)) r (now (out .exit)) × (r ≤ 11033) ⌝ }
 {
     let outcome = run.outcome;
     let sheet = run.sheet;
     match outcome {
-        Outcome::Accepted => put_sheet(sheet, cells, out),
-        Outcome::Refused(e) => put_refusal(e.number() as usize, run.card, out),
+        Check::Passed => put_sheet(sheet, cells, out),
+        Check::Failed(e) => put_refusal(e.number() as usize, run.card, out),
     }
 }
 

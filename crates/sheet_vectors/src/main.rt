@@ -5,9 +5,9 @@
 //
 // The list, `stdin` beside this folder, is made in compare/:
 //     cargo run --release --offline --bin sheet_list > ../crates/sheet_vectors/stdin
+use aero_error::Check;
 use drag_sheet::Answer;
 use drag_sheet::Design;
-use drag_sheet::Outcome;
 use drag_sheet::Part;
 use drag_sheet::Settings;
 use drag_sheet::Sheet;
@@ -189,10 +189,10 @@ struct Done {
     lent: usize,
 }
 
-fn of_outcome(outcome: Outcome) -> replay::Answer {
+fn of_outcome(outcome: Check) -> replay::Answer {
     match outcome {
-        Outcome::Accepted => of_bits(0),
-        Outcome::Refused(refusal) => of_refusal(refusal),
+        Check::Passed => of_bits(0),
+        Check::Failed(refusal) => of_refusal(refusal),
     }
 }
 

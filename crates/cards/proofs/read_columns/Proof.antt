@@ -40,13 +40,6 @@ read-numbers-requires-2 : tie.Need-read-numbers-requires-2
 read-numbers-requires-2 c κs =
     let h = stand (c .before) in omega (arith, h)
 
-mul-t14 : tie.Need-mul-t14
-mul-t14 c = search needs
-
-add-t17 : tie.Need-add-t17
-add-t17 c =
-    let h = stand (c .before .before) in omega (arith, h)
-
 returns-2 : tie.Need-returns-2
 unfolding columnsAt
 returns-2 c =
@@ -72,8 +65,8 @@ read-columns-spec =
     read-numbers-requires
     add-read-numbers
     read-numbers-requires-2
-    mul-t14
-    add-t17
+    (λ c. search needs)
+    (λ c. let h = stand (c .before .before) in omega (arith, h))
     returns-2
     no-settings-requires-2
     returns-3)

@@ -1,7 +1,7 @@
 -- `cards::run_parts` meets its contract: at each turn all the part cards from there on come to what all of them came to at the start.
 use Prim.Native.Nat.{ℕ, _-_}
 use Rattle.cards.specs.Run.{stopped, runStopped, Sized, allPartCards}
-use Rattle.drag_sheet.specs.declared.Outcome.the-variants.{Refused}
+use Rattle.aero_error.specs.declared.Check.the-variants.{Failed}
 use mathlib.Core.Path.{subst, _≡_, refl, sym, ap, _∙_}
 use mathlib.Core.List.{List}
 use lib.Ieee.{Float}
@@ -84,7 +84,7 @@ returns-2 c =
     let e = c .before .before .outcome .given .0 .0 in
     let r = refused-call _ (l .sheet) (l .cells) (i .insert .result) (i .insert .last .1 .1 .1 .0) (i .insert .ensures) e (c .before .before .outcome .given .1) in
     let ran = l .inv .2 ∙ part-refused (a .s .now) (l .at) (l .sheet) (l .cells) _ _ (i .before .before .before .before .before .before .loop-test .taken) (card-read i) e (r .0) in
-    stopped-here _ (Refused e) (l .sheet) (i .insert .last .1 .1 .1 .0) _ (ran ∙ ap (stopped (Refused e) (l .sheet)) (sym (r .2))) (c .stopped2 .ensures ∙ ap (runStopped (Refused e)) (r .1)) (l .inv .1 .parts) (not-accepted e (l .sheet) (length (i .insert .last .1 .1 .1 .0)))
+    stopped-here _ (Failed e) (l .sheet) (i .insert .last .1 .1 .1 .0) _ (ran ∙ ap (stopped (Failed e) (l .sheet)) (sym (r .2))) (c .stopped2 .ensures ∙ ap (runStopped (Failed e)) (r .1)) (l .inv .1 .parts) (not-accepted e (l .sheet) (length (i .insert .last .1 .1 .1 .0)))
 
 enum-told : tie.Need-enum-told Inv-loop μ-loop
 enum-told c = search needs

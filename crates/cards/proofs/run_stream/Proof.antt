@@ -4,7 +4,7 @@ use mathlib.Core.List.{List, []}
 use Prim.Native.Nat.{ℕ}
 use lib.ListN.{length}
 use lib.Ieee.{Float}
-use Rattle.drag_sheet.specs.declared.Outcome.the-variants.{Refused}
+use Rattle.aero_error.specs.declared.Check.the-variants.{Failed}
 use Rattle.drag_sheet.specs.declared.Sheet.{Sheet}
 use Rattle.drag_sheet.specs.Layout.{written}
 use Rattle.drag_sheet.specs.Build.{build}
@@ -31,7 +31,7 @@ returns c =
     let e = c .before .before .first .given .0 .0 in
     let card = b .read-settings .result in
     stopped-first _ e (opened (card .settings) emptySlots) (a .cells .now) _ (stream-unread (a .s .now) (a .cells .now) card (b .read-settings .ensures) e (c .before .before .first .given .1))
-    (ap (λ (z : Sheet). record { outcome = Refused e; card = 0; sheet = z }) (c .blank .ensures))
+    (ap (λ (z : Sheet). record { outcome = Failed e; card = 0; sheet = z }) (c .blank .ensures))
 
 enum-told : tie.Need-enum-told
 enum-told c = search needs
@@ -54,8 +54,8 @@ returns-2 c =
     let card = b .read-settings .result in
     let r = refused-open (card .settings) emptySlots (a .cells .now) (o .«open» .result) (o .«open» .last .1 .0) (o .«open» .ensures) e (c .before .outcome .given .1) in
     stopped-first _ e (opened (card .settings) emptySlots) (o .«open» .last .1 .0) _
-    (stream-unopened (a .s .now) (a .cells .now) card (b .read-settings .ensures) e (o .before .before .enum-told .given .1) (r .0) ∙ ap (stoppedAt 0 (Refused e) (opened (card .settings) emptySlots)) (sym (r .2)))
-    (ap (λ (z : Sheet). record { outcome = Refused e; card = 0; sheet = z }) (r .1))
+    (stream-unopened (a .s .now) (a .cells .now) card (b .read-settings .ensures) e (o .before .before .enum-told .given .1) (r .0) ∙ ap (stoppedAt 0 (Failed e) (opened (card .settings) emptySlots)) (sym (r .2)))
+    (ap (λ (z : Sheet). record { outcome = Failed e; card = 0; sheet = z }) (r .1))
 
 enum-told-2 : tie.Need-enum-told-2
 enum-told-2 c = search needs

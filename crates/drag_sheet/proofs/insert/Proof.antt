@@ -7,7 +7,7 @@ use lib.ListN.{length, take, length-map}
 use Rattle.aero_error.specs.declared.Check.the-variants.{Passed}
 use Rattle.drag_sheet.specs.declared.Part.{Part}
 use Rattle.drag_sheet.specs.Build.{build, partsOf}
-use Rattle.drag_sheet.specs.Calls.{insert, insertAt, callTest, answerFor, cellsAfter, Wrote}
+use Rattle.drag_sheet.specs.Calls.{insert, insertAt, callTest, answered, cellsAfter, Wrote}
 use Rattle.drag_sheet.proofs.Answers.{Room, insert-facts, called-refused, called-all}
 use Rattle.drag_sheet.proofs.Slots.{parts-inserted}
 use borrow.Author.Needs.{needs}
@@ -71,7 +71,7 @@ returns-2 c =
     let parts : take (d .count + 1) (new .result) ≡ insertAt (a .place) (a .part) (partsOf d) = ap (take (d .count + 1)) (new .ensures) ∙ view in
     let wrote = subst (λ (ps : List Part). Wrote (build (a .sheet .settings) ps) (w .result) (a .cells .now) (w .last .1 .1 .0)) parts (w .ensures) in
     called-all (insert (a .place) (a .part)) (a .sheet) (a .cells .now) (w .last .1 .1 .0) (build (a .sheet .settings) (insertAt (a .place) (a .part) (partsOf d))) (w .result) (c .answer-for .result) (passed told) refl refl wrote
-    (c .answer-for .ensures ∙ ap (λ (ps : List Part). answerFor (w .result) (a .sheet) (record { settings = a .sheet .settings; design = record { count = d .count + 1; parts = ps } })) (new .ensures))
+    (c .answer-for .ensures ∙ ap (λ (ps : List Part). answered (w .result) (a .sheet) (record { settings = a .sheet .settings; design = record { count = d .count + 1; parts = ps } })) (new .ensures))
 
 pub insert-spec : {M : Type 1} → statement M
 insert-spec =

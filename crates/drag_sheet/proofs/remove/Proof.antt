@@ -7,7 +7,7 @@ use lib.ListN.{length, take, length-map}
 use Rattle.aero_error.specs.declared.Check.the-variants.{Passed}
 use Rattle.drag_sheet.specs.declared.Part.{Part}
 use Rattle.drag_sheet.specs.Build.{build, partsOf}
-use Rattle.drag_sheet.specs.Calls.{remove, removeAt, callTest, answerFor, cellsAfter, Wrote}
+use Rattle.drag_sheet.specs.Calls.{remove, removeAt, callTest, answered, cellsAfter, Wrote}
 use Rattle.drag_sheet.proofs.Answers.{Room, remove-facts, called-refused, called-all}
 use Rattle.drag_sheet.proofs.Slots.{parts-removed}
 use borrow.Author.Needs.{needs}
@@ -71,7 +71,7 @@ returns-2 c =
     let parts : take (d .count - 1) (new .result) ≡ removeAt (a .place) (partsOf d) = ap (take (d .count - 1)) (new .ensures) ∙ view in
     let wrote = subst (λ (ps : List Part). Wrote (build (a .sheet .settings) ps) (w .result) (a .cells .now) (w .last .1 .1 .0)) parts (w .ensures) in
     called-all (remove (a .place)) (a .sheet) (a .cells .now) (w .last .1 .1 .0) (build (a .sheet .settings) (removeAt (a .place) (partsOf d))) (w .result) (c .answer-for .result) (passed told) refl refl wrote
-    (c .answer-for .ensures ∙ ap (λ (ps : List Part). answerFor (w .result) (a .sheet) (record { settings = a .sheet .settings; design = record { count = d .count - 1; parts = ps } })) (new .ensures))
+    (c .answer-for .ensures ∙ ap (λ (ps : List Part). answered (w .result) (a .sheet) (record { settings = a .sheet .settings; design = record { count = d .count - 1; parts = ps } })) (new .ensures))
 
 pub remove-spec : {M : Type 1} → statement M
 remove-spec =

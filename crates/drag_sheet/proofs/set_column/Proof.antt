@@ -2,7 +2,6 @@
 use mathlib.Core.Path.{_≡_, refl, sym, ap, _∙_, subst}
 use mathlib.Core.List.{List}
 use Prim.Native.Nat.{ℕ, _*_, _≤_, _<_}
-use Rattle.drag_sheet.specs.declared.Outcome.the-variants.{Accepted}
 use native.Mathlib.Omega.{arith}
 use lib.Dec.{lit≤}
 use lib.ListN.{length}
@@ -94,7 +93,7 @@ returns-3 c =
     let e = filled-accepted m vs (rw (c .before .before .before .before .before .before .enum-told2 .given .1) at (built b)) in
     let left : w .last .1 .1 .1 .0 ≡ cellsAfter (column (a .column) (a .mach) (a .reynolds)) (a .sheet .settings) (partsOf (a .sheet .design)) (a .cells .now) =
     w .ensures ∙ ap (λ (col : List Float). columnWritten (a .column) (a .sheet .settings .count) col (a .cells .now)) (sym (ap madeCells e)) in
-    subst (λ (s : Settings). Called (column (a .column) (a .mach) (a .reynolds)) (a .sheet) (a .cells .now) (record { outcome = Accepted; sheet = record { settings = s; design = a .sheet .design } }) (w .last .1 .1 .1 .0)) (sym (c .with-column .ensures))
+    subst (λ (s : Settings). Called (column (a .column) (a .mach) (a .reynolds)) (a .sheet) (a .cells .now) (record { outcome = Passed; sheet = record { settings = s; design = a .sheet .design } }) (w .last .1 .1 .1 .0)) (sym (c .with-column .ensures))
     (called-made (column (a .column) (a .mach) (a .reynolds)) (a .sheet) (a .cells .now) (w .last .1 .1 .1 .0) m (passed (c .before .before .before .before .before .before .before .before .before .before .before .before .before .before)) refl vs e left)
 
 pub set-column-spec : {M : Type 1} → statement M

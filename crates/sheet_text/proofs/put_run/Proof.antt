@@ -1,6 +1,6 @@
 -- `sheet_text::put_run` meets its contract.
 use native.Mathlib.Omega.{arith}
-use Rattle.sheet_text.proofs.Puts.{number-small}
+use Rattle.aero_error.specs.Refusals.{number-small}
 use borrow.Author.Needs.{needs}
 use Rattle.sheet_text.proofs.put_run.Statement.{statement}
 use Rattle.sheet_text.proofs.put_run.Tie as tie
