@@ -1,10 +1,11 @@
 //! Builds the original from its own source text. Nothing of that text is kept here: the items that
-//! document 01 names, with the private helpers under them, are cut out of it into two modules in
-//! cargo's own output folder.
+//! docs/REFERENCE.md names, with the private helpers under them, are cut out of it into two modules
+//! in cargo's own output folder.
 //!
 //! - `original_plain`: the items as they stand.
-//! - `original_fixed`: the same, with calls of `ln`, `powf` and `sin` replaced by document 01's
-//!   fixed steps. `sqrt` stays, the hardware's root being the nearest one.
+//! - `original_fixed`: the same, with calls of `ln`, `powf` and `sin` replaced by the
+//!   fixed steps (docs/REFERENCE.md, Fixed steps). `sqrt` stays, the hardware's root being the
+//!   nearest one.
 //!
 //! An item's text is kept to the letter but for three things: attributes and doc comments go
 //! (serde and thiserror are not at hand), every item, method and field is made `pub` so that
@@ -27,7 +28,7 @@ const ERROR_CASES: &[&str] = &["Domain", "Unsupported"];
 /// shapes.rs.
 const SHAPES_ITEMS: &[&str] = &["enum NoseShape"];
 
-/// The constants of `NoseShape` that document 01 names.
+/// The constants of `NoseShape` that docs/REFERENCE.md names.
 const SHAPES_CONSTANTS: &[&str] = &["const VON_KARMAN", "const LV_HAACK"];
 
 /// drag.rs.
@@ -50,7 +51,7 @@ const DRAG_ITEMS: &[&str] = &[
     "fn boattail_factor",
 ];
 
-/// nose_drag.rs, all but `cone_pressure_drag_coefficient`, which document 01 leaves out.
+/// nose_drag.rs, all but `cone_pressure_drag_coefficient`, which docs/REFERENCE.md leaves out.
 const NOSE_DRAG_ITEMS: &[&str] = &[
     "const CONE_SUPERSONIC_MACH",
     "const GAMMA",
@@ -85,7 +86,7 @@ const NOSE_DRAG_ITEMS: &[&str] = &[
 /// Derives that need no crate.
 const KNOWN_DERIVES: &[&str] = &["Debug", "Clone", "Copy", "PartialEq", "Eq", "Default"];
 
-/// Calls that would need a step that document 01 doesn't fix: none may be in what is cut.
+/// Calls that would need a step that docs/REFERENCE.md doesn't fix: none may be in what is cut.
 const UNKNOWN_CALLS: &[&str] = &[
     ".exp(",
     ".exp2(",

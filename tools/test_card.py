@@ -18,7 +18,7 @@ HERE = pathlib.Path(__file__).resolve().parent
 EXAMPLES = HERE.parent / "examples"
 SHEET = os.environ.get("SHEET")
 
-# Document 01's example: its text, its bytes, its five lines.
+# The example of docs/REFERENCE.md: its text, its bytes, its five lines.
 PAPER_TEXT = "diameter 1\nfineness 1\ncolumn 0 0\npart aft 1\n"
 PAPER_CARD = bytes.fromhex("0d" + "000000000000f03f" * 2 + "01" + "00" * 16 + "08" + "000000000000f03f")
 PAPER_SHEET = """mach 0000000000000000

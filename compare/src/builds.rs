@@ -1,8 +1,11 @@
-//! The two builds of the original under the numbers of the port's interface: formulas by number,
+//! The two builds of the original under the port's interface: formulas by the wrapper's `Formula`,
 //! shapes by number, curves. One text makes both, so that they can't drift apart.
 //!
-//! - `fixed_steps`: the original with document 01's fixed steps, which the port must equal.
+//! - `fixed_steps`: the original with the fixed steps (docs/REFERENCE.md, Fixed steps), which the
+//!   port must equal.
 //! - `plain`: the original as it stands, with the machine's own ln, exp, powf and sin.
+
+use cobalnis::Formula;
 
 /// The shapes of a card, by their numbers.
 pub const SHAPES: [&str; 6] = [
@@ -14,29 +17,12 @@ pub const SHAPES: [&str; 6] = [
     "Haack",
 ];
 
-/// The formulas' names, in the order of their numbers.
-pub const FORMULAS: [&str; 20] = [
-    "sqrt",
-    "ln",
-    "exp",
-    "powf",
-    "sin",
-    "check_mach_any",
-    "critical_reynolds",
-    "incompressible_skin_friction",
-    "skin_friction_coefficient",
-    "body_friction_form_factor",
-    "stagnation_pressure_ratio",
-    "stagnation_drag_coefficient",
-    "base_drag_coefficient",
-    "joint_pressure_drag_coefficient",
-    "boattail_factor",
-    "subsonic_pressure_drag_coefficient",
-    "ogive_pressure_drag_factor",
-    "fineness_scaled_pressure_drag",
-    "ellipsoid_subsonic_pressure_drag",
-    "stagnation_ratio",
-];
+/// The formulas that have arguments.
+pub fn formulas() -> impl Iterator<Item = Formula> {
+    let constants = [Formula::VonKarman, Formula::LvHaack];
+    let all = Formula::ALL.iter().copied();
+    all.filter(move |formula| !constants.contains(formula))
+}
 
 /// The number of a shape that stands for the step curve, where a curve is asked.
 pub const STEP: u64 = 6;
@@ -45,40 +31,40 @@ macro_rules! build {
     ($(#[$about:meta])* $name:ident, $original:ident, $steps:path) => {
         $(#[$about])*
         pub mod $name {
+            use cobalnis::Formula;
+
             use crate::refusals::Answer;
             use crate::$original as original;
             use original::{NoseShape, PressureDragCurve, StoneyNose};
             use $steps as steps;
 
-            /// A formula's value or refusal; a test that passes has the value +0. None for a number
-            /// that names none.
-            pub fn formula(which: u32, [a, b, c, d, e]: [f64; 5]) -> Option<Result<f64, Answer>> {
+            /// A formula's value or refusal; a test that passes has the value +0.
+            pub fn formula(which: Formula, [a, b, c, d, e]: [f64; 5]) -> Result<f64, Answer> {
                 let answer = match which {
-                    0 => Ok(steps::sqrt(a)),
-                    1 => Ok(steps::ln(a)),
-                    2 => Ok(steps::exp(a)),
-                    3 => Ok(steps::powf(a, b)),
-                    4 => Ok(steps::sin(a)),
-                    5 => original::check_mach_any(a).map(|()| 0.0),
-                    6 => original::critical_reynolds(a),
-                    7 => original::incompressible_skin_friction(a, b),
-                    8 => original::skin_friction_coefficient(a, b, c),
-                    9 => original::body_friction_form_factor(a),
-                    10 => original::stagnation_pressure_ratio(a),
-                    11 => original::stagnation_drag_coefficient(a),
-                    12 => original::base_drag_coefficient(a),
-                    13 => original::joint_pressure_drag_coefficient(a),
-                    14 => original::boattail_factor(a, b, c),
-                    15 => original::subsonic_pressure_drag_coefficient(a, b, c, d, e),
-                    16 => original::ogive_pressure_drag_factor(a),
-                    17 => original::fineness_scaled_pressure_drag(a, b, c),
-                    18 => original::ellipsoid_subsonic_pressure_drag(a, b),
-                    19 => Ok(original::stagnation_ratio(a)),
-                    20 => Ok(haack_parameter(NoseShape::VON_KARMAN)),
-                    21 => Ok(haack_parameter(NoseShape::LV_HAACK)),
-                    _ => return None,
+                    Formula::Sqrt => Ok(steps::sqrt(a)),
+                    Formula::Ln => Ok(steps::ln(a)),
+                    Formula::Exp => Ok(steps::exp(a)),
+                    Formula::Powf => Ok(steps::powf(a, b)),
+                    Formula::Sin => Ok(steps::sin(a)),
+                    Formula::CheckMachAny => original::check_mach_any(a).map(|()| 0.0),
+                    Formula::CriticalReynolds => original::critical_reynolds(a),
+                    Formula::IncompressibleSkinFriction => original::incompressible_skin_friction(a, b),
+                    Formula::SkinFrictionCoefficient => original::skin_friction_coefficient(a, b, c),
+                    Formula::BodyFrictionFormFactor => original::body_friction_form_factor(a),
+                    Formula::StagnationPressureRatio => original::stagnation_pressure_ratio(a),
+                    Formula::StagnationDragCoefficient => original::stagnation_drag_coefficient(a),
+                    Formula::BaseDragCoefficient => original::base_drag_coefficient(a),
+                    Formula::JointPressureDragCoefficient => original::joint_pressure_drag_coefficient(a),
+                    Formula::BoattailFactor => original::boattail_factor(a, b, c),
+                    Formula::SubsonicPressureDragCoefficient => original::subsonic_pressure_drag_coefficient(a, b, c, d, e),
+                    Formula::OgivePressureDragFactor => original::ogive_pressure_drag_factor(a),
+                    Formula::FinenessScaledPressureDrag => original::fineness_scaled_pressure_drag(a, b, c),
+                    Formula::EllipsoidSubsonicPressureDrag => original::ellipsoid_subsonic_pressure_drag(a, b),
+                    Formula::StagnationRatio => Ok(original::stagnation_ratio(a)),
+                    Formula::VonKarman => Ok(haack_parameter(NoseShape::VON_KARMAN)),
+                    Formula::LvHaack => Ok(haack_parameter(NoseShape::LV_HAACK)),
                 };
-                Some(answer.map_err(Answer::from))
+                answer.map_err(Answer::from)
             }
 
             fn haack_parameter(shape: NoseShape) -> f64 {
@@ -127,7 +113,7 @@ macro_rules! build {
 }
 
 build!(
-    /// With document 01's fixed steps.
+    /// With the fixed steps (docs/REFERENCE.md, Fixed steps).
     fixed_steps,
     original_fixed,
     crate::fixed

@@ -1,8 +1,9 @@
-//! A straightforward model of document 01's cards and of its program `sheet`: bytes in, the lines
-//! of the sheet or `refused N card K` out. The calls are those of the model of the sheet.
+//! A straightforward model of the cards and of the program `sheet` (docs/REFERENCE.md, Cards and
+//! Program): bytes in, the lines of the sheet or `refused N card K` out. The calls are those of the
+//! model of the sheet.
 //!
-//! It is written from document 01 alone. Bytes are looked at from left to right, one field at a
-//! time, and nothing behind the first refusal is looked at.
+//! It is written from the project's scope alone, which docs/REFERENCE.md tells. Bytes are looked at
+//! from left to right, one field at a time, and nothing behind the first refusal is looked at.
 
 use crate::answer_bits;
 pub use crate::builds::fixed_steps::shape_of;

@@ -1,4 +1,5 @@
-//! Document 01's "Fixed steps" in Rust: SQRT, LN, EXP, POW and SIN, written from that page alone.
+//! The fixed steps (docs/REFERENCE.md, Fixed steps) in Rust: SQRT, LN, EXP, POW and SIN, written
+//! from the project's scope alone.
 //!
 //! One rounding per operation, in the order written; no fused multiply and add anywhere. `1/21`
 //! and `1/k` are rounded quotients. These stand in for `ln`, `powf` and `sin` in the build of the

@@ -1,5 +1,5 @@
-//! The Rust side of the comparison: document 01's fixed steps, the original built from its own
-//! source text, and what the programs that make lists share.
+//! The Rust side of the comparison: the fixed steps (docs/REFERENCE.md, Fixed steps), the original
+//! built from its own source text, and what the programs that make lists share.
 
 pub mod arguments;
 pub mod builds;
@@ -14,7 +14,7 @@ pub mod refusals;
 pub mod side;
 pub mod streams;
 
-/// The original with ln, powf and sin replaced by document 01's fixed steps.
+/// The original with ln, powf and sin replaced by the fixed steps (docs/REFERENCE.md, Fixed steps).
 #[allow(dead_code, unreachable_patterns)]
 #[rustfmt::skip]
 pub mod original_fixed {
@@ -28,7 +28,7 @@ pub mod original_plain {
     include!(concat!(env!("OUT_DIR"), "/original_plain.rs"));
 }
 
-/// The bits of an answer. Every NaN is handed out as 7ff8000000000000, as document 01 says.
+/// The bits of an answer. Every NaN is handed out as 7ff8000000000000 (docs/REFERENCE.md, Numbers).
 ///
 /// The test is on whole numbers that the optimiser can't see through: with `x.is_nan()` a release
 /// build of rustc 1.95 drops the branch after a square root and hands out the hardware's NaN.

@@ -1,42 +1,43 @@
-//! Writes a list of stored answers to standard output: lines of one width, none of them twice, in
-//! the order in which they come.
+//! Writes the lines of stored answers: a tag, eleven words of 16 hexadecimal digits with a space in
+//! front of each, and a line feed.
 
 use std::collections::HashSet;
 use std::io::{BufWriter, StdoutLock, Write};
 
-use crate::refusals::Answer;
+/// Words of a line.
+pub const WORDS: usize = 11;
 
+/// A line of a tag and its words: first the arguments, zeros up to word `first`, from there on the
+/// answer, and zeros after it.
+pub fn line(tag: char, first: usize, arguments: &[u64], answer: &[u64]) -> String {
+    assert!(arguments.len() <= first && answer.len() <= WORDS - first);
+    let mut words = [0; WORDS];
+    words[..arguments.len()].copy_from_slice(arguments);
+    words[first..first + answer.len()].copy_from_slice(answer);
+    let words: Vec<String> = words.iter().map(|word| format!(" {word:016x}")).collect();
+    tag.to_string() + &words.concat()
+}
+
+/// Standard output, each line once, in the order in which they come.
 pub struct List {
     out: BufWriter<StdoutLock<'static>>,
     seen: HashSet<String>,
-    /// How many arguments a line has; those not given are zeros.
-    width: usize,
 }
 
 impl List {
-    pub fn new(width: usize) -> Self {
+    #[allow(clippy::new_without_default)]
+    pub fn new() -> Self {
         Self {
             out: BufWriter::new(std::io::stdout().lock()),
             seen: HashSet::new(),
-            width,
         }
     }
 
-    /// A line of text, unless it was printed before.
-    pub fn text(&mut self, line: String) {
+    /// A line, unless it was printed before.
+    pub fn once(&mut self, line: String) {
         if self.seen.insert(line.clone()) {
             writeln!(self.out, "{line}").expect("standard output");
         }
-    }
-
-    /// A line of a tag, arguments as bits, and an answer.
-    pub fn line(&mut self, tag: char, args: &[u64], answer: Answer) {
-        assert!(args.len() <= self.width);
-        let mut line = tag.to_string();
-        for i in 0..self.width {
-            line.push_str(&format!(" {:016x}", args.get(i).unwrap_or(&0)));
-        }
-        self.text(format!("{line} {answer}"));
     }
 
     /// What is still held back goes out.

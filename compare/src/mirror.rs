@@ -6,6 +6,7 @@
 //! the interface says that nothing is written, nothing is.
 
 use cobalnis::words::{PartWords, SheetWords, FIRST_PART, MACHS, PARTS, PART_WORDS, REYNOLDS};
+use cobalnis::Formula;
 
 use crate::answer_bits;
 use crate::builds::{fixed_steps, STEP};
@@ -32,8 +33,8 @@ fn pair(answer: Answer) -> (u32, u64) {
 // ---- formulas
 
 pub fn formula(which: u32, x: [f64; 5]) -> (u32, u64) {
-    match fixed_steps::formula(which, x) {
-        Some(answer) => pair(Answer::of(answer)),
+    match Formula::of(which) {
+        Some(formula) => pair(Answer::of(fixed_steps::formula(formula, x))),
         None => (NO_SUCH, 0),
     }
 }

@@ -1,8 +1,9 @@
-//! A straightforward model of document 01's sheet over the original's own functions (with the fixed
-//! steps): every call recomputes what it writes, row by row, in the order of the paper.
+//! A straightforward model of the sheet (docs/REFERENCE.md, Sheet) over the original's own
+//! functions (with the fixed steps): every call recomputes what it writes, row by row, in the order
+//! of docs/REFERENCE.md.
 //!
-//! It is written from document 01 alone. A sheet may be any sheet at all, so the counts stand
-//! beside arrays that have room for what a sheet can have.
+//! It is written from the project's scope alone, which docs/REFERENCE.md tells. A sheet may be any
+//! sheet at all, so the counts stand beside arrays that have room for what a sheet can have.
 
 use crate::original_fixed::{
     base_drag_coefficient, boattail_factor, body_friction_form_factor, check_dimension,

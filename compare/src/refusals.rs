@@ -1,10 +1,10 @@
-//! Document 01's refusal numbers and codes for the original's errors, and an answer as the lists
-//! write it.
+//! Refusal numbers and codes (docs/REFERENCE.md, Refusals and Codes) for the original's errors, and
+//! an answer with them.
 
 use crate::answer_bits;
 use crate::{original_fixed, original_plain};
 
-/// Document 01's code for each of the Rust's `what` texts, 1 to 22 in its order.
+/// The code (docs/REFERENCE.md, Codes) of each of the Rust's `what` texts, 1 to 22 in order.
 pub const CODES: [&str; 22] = [
     "Mach number",
     "fineness ratio",
@@ -33,10 +33,10 @@ pub const CODES: [&str; 22] = [
 /// The code of a `what`.
 pub fn code(what: &str) -> u8 {
     let place = CODES.iter().position(|known| *known == what);
-    place.unwrap_or_else(|| panic!("document 01 has no code for `{what}`")) as u8 + 1
+    place.unwrap_or_else(|| panic!("there is no code for `{what}`")) as u8 + 1
 }
 
-/// An answer as the lists write it: refusal number (0 accepted), code (0 none), and the bits of
+/// An answer: refusal number (0 accepted), code (0 none), and the bits of
 /// the value, or of the value refused (0 where refusal 2 and 3 carry none).
 #[derive(Debug, Clone, Copy, PartialEq, Eq)]
 pub struct Answer {
@@ -101,7 +101,7 @@ impl Answer {
         } else if text.starts_with("a Haack series nose") {
             Self::refused(3)
         } else {
-            panic!("document 01 has no number for `{text}`")
+            panic!("there is no number for `{text}`")
         }
     }
 }
@@ -123,11 +123,5 @@ impl From<original_plain::AeroError> for Answer {
             original_plain::AeroError::Domain { what, value } => Self::domain(what, value),
             original_plain::AeroError::Unsupported(text) => Self::unsupported(&text),
         }
-    }
-}
-
-impl std::fmt::Display for Answer {
-    fn fmt(&self, f: &mut std::fmt::Formatter<'_>) -> std::fmt::Result {
-        write!(f, "{:02} {:02} {:016x}", self.refusal, self.code, self.bits)
     }
 }

@@ -1,5 +1,5 @@
-//! The model of document 01's cards: the paper's own example, the refusals of its table with their
-//! card, and the order in which bytes are looked at.
+//! The model of the cards (docs/REFERENCE.md, Cards): the example of docs/REFERENCE.md, the
+//! refusals of its table with their card, and the order in which bytes are looked at.
 
 use compare::cards::printed;
 

@@ -1,5 +1,5 @@
-//! The model of document 01's sheet: the paper's own example, the refusals of its table, and that
-//! edits leave the rows that a build from nothing gives.
+//! The model of the sheet (docs/REFERENCE.md, Sheet): the example of docs/REFERENCE.md, the
+//! refusals of its table, and that edits leave the rows that a build from nothing gives.
 
 use compare::answer_bits;
 use compare::inputs::Random;

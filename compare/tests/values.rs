@@ -1,5 +1,5 @@
-//! Document 01's "Values on either side" and a few facts of the original, asked of both builds of
-//! it: they say that the right text was cut and that the fixed steps stand where they should.
+//! The values of docs/REFERENCE.md, Values, and a few facts of the original, asked of both builds
+//! of it: they say that the right text was cut and that the fixed steps stand where they should.
 
 use compare::inputs::{up, NANS};
 use compare::refusals::{code, Answer, CODES};
@@ -94,7 +94,8 @@ fn boundaries() {
     );
 }
 
-/// Document 01's example for `sheet`: one cone card with only an aft diameter of 1, so fineness 0.
+/// The example of docs/REFERENCE.md for `sheet`: one cone card with only an aft diameter of 1, so
+/// fineness 0.
 #[test]
 fn example_sheet() {
     let part = PressureDragCurve::new(NoseShape::Conical {}, 0.0, 0.0).unwrap();

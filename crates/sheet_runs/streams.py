@@ -1,5 +1,5 @@
 #!/usr/bin/env python3
-"""The streams of `sheet_runs`: each line of the list below is a stream of card bytes and the answer that document 01 gives for it.
+"""The streams of `sheet_runs`: each line of the list below is a stream of card bytes and the answer that docs/REFERENCE.md gives for it.
 
     streams.py write > stdin     the streams, each after its length in two bytes, low byte first
     streams.py check < stdout    compares the answers that were printed with the list
@@ -55,7 +55,7 @@ ONE = settings(columns=[(0.0, 0.0)])
 FIVE = [(0.0, 1e5), (0.5, 1e6), (0.9, 2e6), (1.2, 5e6), (2.0, 1e7)]
 BARE = settings()
 
-# document 01's example, and each of the unstarred values on either side
+# the example (docs/REFERENCE.md, Example), and the last two rows of its Values
 add(ONE + part(d=1.0), (1, 1))
 add(ONE + part(length=1.0, d=1.0, angle=HALF_PI), (1, 1))
 add(ONE + part(length=1.0, d=1.0, angle=ABOVE_HALF_PI), refused(1, 1))

@@ -30,15 +30,37 @@ extern "C" {
 #define COBALNIS_NO_SUCH 65535u
 
 enum {
-    COBALNIS_COLUMNS = 32,     /* columns that a sheet has room for */
-    COBALNIS_PLACES = 16,      /* parts that it has room for */
-    COBALNIS_ROWS = 19,        /* 16 part rows, friction, base, total */
-    COBALNIS_PART_WORDS = 6,
-    COBALNIS_SHEET_WORDS = 165,
-    COBALNIS_LONGEST_TEXT = 11033 /* what cobalnis_print needs */
+    COBALNIS_COLUMNS = 32, /* columns that a sheet has room for */
+    COBALNIS_PLACES = 16   /* parts that it has room for */
 };
 
-/* Refusal numbers. */
+/* Rows of cells, one cell a column: a row for each place, then these. */
+enum {
+    COBALNIS_FRICTION = COBALNIS_PLACES,
+    COBALNIS_BASE,
+    COBALNIS_TOTAL,
+    COBALNIS_ROWS
+};
+
+/* Words of a part, where those of a sheet begin, and words of a sheet. */
+enum {
+    COBALNIS_PART_WORDS = 6,
+    COBALNIS_MACHS_AT = 4,
+    COBALNIS_REYNOLDS_AT = COBALNIS_MACHS_AT + COBALNIS_COLUMNS,
+    COBALNIS_PARTS_AT = COBALNIS_REYNOLDS_AT + COBALNIS_COLUMNS,
+    COBALNIS_FIRST_PART = COBALNIS_PARTS_AT + 1,
+    COBALNIS_SHEET_WORDS = COBALNIS_FIRST_PART + COBALNIS_PLACES * COBALNIS_PART_WORDS
+};
+
+/* What cobalnis_print needs: a line for Mach, each place, friction, base and
+ * total, of a name, a space and 16 digits a column, and a line feed. */
+enum {
+    COBALNIS_ROW_TEXT = COBALNIS_COLUMNS * 17 + 1,
+    COBALNIS_LONGEST_TEXT = 4 + 8 + 4 + 5 + 7 * COBALNIS_PLACES
+                            + (1 + COBALNIS_ROWS) * COBALNIS_ROW_TEXT
+};
+
+/* Refusal numbers (docs/REFERENCE.md, Refusals). */
 enum {
     COBALNIS_DOMAIN = 1,        /* a number that no formula takes; has a code and a value */
     COBALNIS_OGIVE_RATIO = 2,   /* an ogive's radius ratio below 1, infinite or NaN */
@@ -46,14 +68,15 @@ enum {
     COBALNIS_ENDED = 4,         /* bytes end inside a card, or there are none */
     COBALNIS_RESERVED = 5,      /* a reserved bit, or no such shape */
     COBALNIS_FIELD = 6,         /* a card's field is missing or barred */
-    COBALNIS_MANY_COLUMNS = 7,  /* more than 32 columns */
+    COBALNIS_MANY_COLUMNS = 7,  /* more than COBALNIS_COLUMNS columns */
     COBALNIS_NO_PLACE = 8,      /* no such place, column or point */
-    COBALNIS_MANY_PARTS = 9,    /* a 17th part */
+    COBALNIS_MANY_PARTS = 9,    /* more than COBALNIS_PLACES parts */
     COBALNIS_FEW_CELLS = 10,    /* too few cells, or too short an output */
     COBALNIS_HOUSE_INTERVAL = 11 /* a size outside what the clubs allow */
 };
 
-/* Codes of refusal 1, and what cobalnis_check_dimension is asked about. */
+/* Codes of refusal 1 (docs/REFERENCE.md, Codes), and what
+ * cobalnis_check_dimension is asked about. */
 enum {
     COBALNIS_MACH = 1,
     COBALNIS_FINENESS,
@@ -90,6 +113,32 @@ enum {
     COBALNIS_STEP
 };
 
+/* The formulas' numbers, from 0. */
+enum {
+    COBALNIS_FORMULA_SQRT = 0,
+    COBALNIS_FORMULA_LN,
+    COBALNIS_FORMULA_EXP,
+    COBALNIS_FORMULA_POWF,
+    COBALNIS_FORMULA_SIN,
+    COBALNIS_FORMULA_CHECK_MACH_ANY,
+    COBALNIS_FORMULA_CRITICAL_REYNOLDS,
+    COBALNIS_FORMULA_INCOMPRESSIBLE_SKIN_FRICTION,
+    COBALNIS_FORMULA_SKIN_FRICTION_COEFFICIENT,
+    COBALNIS_FORMULA_BODY_FRICTION_FORM_FACTOR,
+    COBALNIS_FORMULA_STAGNATION_PRESSURE_RATIO,
+    COBALNIS_FORMULA_STAGNATION_DRAG_COEFFICIENT,
+    COBALNIS_FORMULA_BASE_DRAG_COEFFICIENT,
+    COBALNIS_FORMULA_JOINT_PRESSURE_DRAG_COEFFICIENT,
+    COBALNIS_FORMULA_BOATTAIL_FACTOR,
+    COBALNIS_FORMULA_SUBSONIC_PRESSURE_DRAG_COEFFICIENT,
+    COBALNIS_FORMULA_OGIVE_PRESSURE_DRAG_FACTOR,
+    COBALNIS_FORMULA_FINENESS_SCALED_PRESSURE_DRAG,
+    COBALNIS_FORMULA_ELLIPSOID_SUBSONIC_PRESSURE_DRAG,
+    COBALNIS_FORMULA_STAGNATION_RATIO,
+    COBALNIS_FORMULA_VON_KARMAN,
+    COBALNIS_FORMULA_LV_HAACK
+};
+
 /* Stoney's measured noses. */
 enum {
     COBALNIS_NOSE_POWER_QUARTER,
@@ -105,9 +154,8 @@ enum {
 
 /* ---- the library's functions */
 
-/* The formula of a number, as the typed functions below name them; bits: its
- * value, or the value refused. Arguments that it has no use for are not
- * looked at. */
+/* The formula of a number, COBALNIS_FORMULA_..; bits: its value, or the value
+ * refused. Arguments that it has no use for are not looked at. */
 uint32_t cobalnis_formula(uint32_t which, double a, double b, double c, double d, double e,
                           uint64_t *bits);
 
@@ -132,21 +180,21 @@ uint32_t cobalnis_curve(uint64_t shape, double parameter, double fineness_ratio,
 /* The sheet's calls. Accepted: the words are the sheet handed back. Refused:
  * words and cells are untouched, and bits is the value refused. Open looks at
  * the settings' words only and empties the design. */
-uint32_t cobalnis_open(uint64_t sheet[165], double *cells, size_t lent, uint64_t *bits);
-uint32_t cobalnis_insert(uint64_t sheet[165], size_t place, const uint64_t part[6], double *cells,
+uint32_t cobalnis_open(uint64_t sheet[COBALNIS_SHEET_WORDS], double *cells, size_t lent, uint64_t *bits);
+uint32_t cobalnis_insert(uint64_t sheet[COBALNIS_SHEET_WORDS], size_t place, const uint64_t part[COBALNIS_PART_WORDS], double *cells,
                          size_t lent, uint64_t *bits);
-uint32_t cobalnis_replace(uint64_t sheet[165], size_t place, const uint64_t part[6], double *cells,
+uint32_t cobalnis_replace(uint64_t sheet[COBALNIS_SHEET_WORDS], size_t place, const uint64_t part[COBALNIS_PART_WORDS], double *cells,
                           size_t lent, uint64_t *bits);
-uint32_t cobalnis_remove(uint64_t sheet[165], size_t place, double *cells, size_t lent,
+uint32_t cobalnis_remove(uint64_t sheet[COBALNIS_SHEET_WORDS], size_t place, double *cells, size_t lent,
                          uint64_t *bits);
-uint32_t cobalnis_set_column(uint64_t sheet[165], size_t column, double mach, double reynolds,
+uint32_t cobalnis_set_column(uint64_t sheet[COBALNIS_SHEET_WORDS], size_t column, double mach, double reynolds,
                              double *cells, size_t lent, uint64_t *bits);
 
 /* Reads a card from the byte `at` on; next: where it ends. A settings card
- * fills a sheet's first 68 words. Refused: nothing is written. */
-uint32_t cobalnis_read_settings(const uint8_t *bytes, size_t n, size_t at, uint64_t sheet[165],
+ * fills the words of a sheet's settings. Refused: nothing is written. */
+uint32_t cobalnis_read_settings(const uint8_t *bytes, size_t n, size_t at, uint64_t sheet[COBALNIS_SHEET_WORDS],
                                 size_t *next);
-uint32_t cobalnis_read_part(const uint8_t *bytes, size_t n, size_t at, uint64_t part[6],
+uint32_t cobalnis_read_part(const uint8_t *bytes, size_t n, size_t at, uint64_t part[COBALNIS_PART_WORDS],
                             size_t *next);
 
 /* What the program `sheet` prints for these bytes, and how many bytes that
@@ -187,14 +235,14 @@ typedef struct {
 } cobalnis_pressure_drag_curve;
 
 static_assert(sizeof(double) == 8 && sizeof(uint64_t) == 8, "a word has 8 bytes");
-static_assert(sizeof(cobalnis_part) == 8 * COBALNIS_PART_WORDS, "a part is 6 words");
+static_assert(sizeof(cobalnis_part) == 8 * COBALNIS_PART_WORDS, "a part's words");
 static_assert(offsetof(cobalnis_part, wetted_ratio) == 8 * 5, "the last word of a part");
-static_assert(sizeof(cobalnis_sheet) == 8 * COBALNIS_SHEET_WORDS, "a sheet is 165 words");
+static_assert(sizeof(cobalnis_sheet) == 8 * COBALNIS_SHEET_WORDS, "a sheet's words");
 static_assert(offsetof(cobalnis_sheet, columns) == 8 * 3, "the number of columns");
-static_assert(offsetof(cobalnis_sheet, mach) == 8 * 4, "Machs");
-static_assert(offsetof(cobalnis_sheet, reynolds) == 8 * 36, "Reynolds numbers");
-static_assert(offsetof(cobalnis_sheet, parts) == 8 * 68, "the number of parts");
-static_assert(offsetof(cobalnis_sheet, part) == 8 * 69, "the parts");
+static_assert(offsetof(cobalnis_sheet, mach) == 8 * COBALNIS_MACHS_AT, "Machs");
+static_assert(offsetof(cobalnis_sheet, reynolds) == 8 * COBALNIS_REYNOLDS_AT, "Reynolds numbers");
+static_assert(offsetof(cobalnis_sheet, parts) == 8 * COBALNIS_PARTS_AT, "the number of parts");
+static_assert(offsetof(cobalnis_sheet, part) == 8 * COBALNIS_FIRST_PART, "the parts");
 
 /* ---- statuses and bits */
 
@@ -262,83 +310,88 @@ static inline double cobalnis_step_of(uint32_t which, double a, double b)
 
 static inline double cobalnis_sqrt(double x)
 {
-    return cobalnis_step_of(0, x, 0);
+    return cobalnis_step_of(COBALNIS_FORMULA_SQRT, x, 0);
 }
 
 static inline double cobalnis_ln(double x)
 {
-    return cobalnis_step_of(1, x, 0);
+    return cobalnis_step_of(COBALNIS_FORMULA_LN, x, 0);
 }
 
 static inline double cobalnis_exp(double y)
 {
-    return cobalnis_step_of(2, y, 0);
+    return cobalnis_step_of(COBALNIS_FORMULA_EXP, y, 0);
 }
 
 static inline double cobalnis_powf(double x, double y)
 {
-    return cobalnis_step_of(3, x, y);
+    return cobalnis_step_of(COBALNIS_FORMULA_POWF, x, y);
 }
 
 static inline double cobalnis_sin(double x)
 {
-    return cobalnis_step_of(4, x, 0);
+    return cobalnis_step_of(COBALNIS_FORMULA_SIN, x, 0);
 }
 
 /* value: the Mach number refused, or 0. */
 static inline uint32_t cobalnis_check_mach_any(double mach, double *value)
 {
-    return cobalnis_ask(5, mach, 0, 0, 0, 0, value);
+    return cobalnis_ask(COBALNIS_FORMULA_CHECK_MACH_ANY, mach, 0, 0, 0, 0, value);
 }
 
 static inline uint32_t cobalnis_critical_reynolds(double relative_roughness, double *value)
 {
-    return cobalnis_ask(6, relative_roughness, 0, 0, 0, 0, value);
+    return cobalnis_ask(COBALNIS_FORMULA_CRITICAL_REYNOLDS, relative_roughness, 0, 0, 0, 0, value);
 }
 
 static inline uint32_t cobalnis_incompressible_skin_friction(double reynolds,
                                                              double relative_roughness,
                                                              double *value)
 {
-    return cobalnis_ask(7, reynolds, relative_roughness, 0, 0, 0, value);
+    return cobalnis_ask(COBALNIS_FORMULA_INCOMPRESSIBLE_SKIN_FRICTION, reynolds, relative_roughness,
+                        0, 0, 0, value);
 }
 
 static inline uint32_t cobalnis_skin_friction_coefficient(double reynolds,
                                                           double relative_roughness, double mach,
                                                           double *value)
 {
-    return cobalnis_ask(8, reynolds, relative_roughness, mach, 0, 0, value);
+    return cobalnis_ask(COBALNIS_FORMULA_SKIN_FRICTION_COEFFICIENT, reynolds, relative_roughness,
+                        mach, 0, 0, value);
 }
 
 static inline uint32_t cobalnis_body_friction_form_factor(double fineness_ratio, double *value)
 {
-    return cobalnis_ask(9, fineness_ratio, 0, 0, 0, 0, value);
+    return cobalnis_ask(COBALNIS_FORMULA_BODY_FRICTION_FORM_FACTOR, fineness_ratio, 0, 0, 0, 0,
+                        value);
 }
 
 static inline uint32_t cobalnis_stagnation_pressure_ratio(double mach, double *value)
 {
-    return cobalnis_ask(10, mach, 0, 0, 0, 0, value);
+    return cobalnis_ask(COBALNIS_FORMULA_STAGNATION_PRESSURE_RATIO, mach, 0, 0, 0, 0, value);
 }
 
 static inline uint32_t cobalnis_stagnation_drag_coefficient(double mach, double *value)
 {
-    return cobalnis_ask(11, mach, 0, 0, 0, 0, value);
+    return cobalnis_ask(COBALNIS_FORMULA_STAGNATION_DRAG_COEFFICIENT, mach, 0, 0, 0, 0, value);
 }
 
 static inline uint32_t cobalnis_base_drag_coefficient(double mach, double *value)
 {
-    return cobalnis_ask(12, mach, 0, 0, 0, 0, value);
+    return cobalnis_ask(COBALNIS_FORMULA_BASE_DRAG_COEFFICIENT, mach, 0, 0, 0, 0, value);
 }
 
 static inline uint32_t cobalnis_joint_pressure_drag_coefficient(double joint_angle, double *value)
 {
-    return cobalnis_ask(13, joint_angle, 0, 0, 0, 0, value);
+    return cobalnis_ask(COBALNIS_FORMULA_JOINT_PRESSURE_DRAG_COEFFICIENT, joint_angle, 0, 0, 0, 0,
+                        value);
 }
 
 static inline uint32_t cobalnis_boattail_factor(double length, double fore_diameter,
                                                 double aft_diameter, double *value)
 {
-    return cobalnis_ask(14, length, fore_diameter, aft_diameter, 0, 0, value);
+    return cobalnis_ask(COBALNIS_FORMULA_BOATTAIL_FACTOR, length, fore_diameter, aft_diameter, 0, 0,
+                        value);
 }
 
 static inline uint32_t cobalnis_subsonic_pressure_drag_coefficient(double c_rest, double c_low,
@@ -346,41 +399,44 @@ static inline uint32_t cobalnis_subsonic_pressure_drag_coefficient(double c_rest
                                                                    double mach_low, double mach,
                                                                    double *value)
 {
-    return cobalnis_ask(15, c_rest, c_low, slope_low, mach_low, mach, value);
+    return cobalnis_ask(COBALNIS_FORMULA_SUBSONIC_PRESSURE_DRAG_COEFFICIENT, c_rest, c_low,
+                        slope_low, mach_low, mach, value);
 }
 
 static inline uint32_t cobalnis_ogive_pressure_drag_factor(double kappa, double *value)
 {
-    return cobalnis_ask(16, kappa, 0, 0, 0, 0, value);
+    return cobalnis_ask(COBALNIS_FORMULA_OGIVE_PRESSURE_DRAG_FACTOR, kappa, 0, 0, 0, 0, value);
 }
 
 static inline uint32_t cobalnis_fineness_scaled_pressure_drag(double c3, double c0,
                                                               double fineness_ratio, double *value)
 {
-    return cobalnis_ask(17, c3, c0, fineness_ratio, 0, 0, value);
+    return cobalnis_ask(COBALNIS_FORMULA_FINENESS_SCALED_PRESSURE_DRAG, c3, c0, fineness_ratio, 0,
+                        0, value);
 }
 
 static inline uint32_t cobalnis_ellipsoid_subsonic_pressure_drag(double fineness_ratio,
                                                                  double mach, double *value)
 {
-    return cobalnis_ask(18, fineness_ratio, mach, 0, 0, 0, value);
+    return cobalnis_ask(COBALNIS_FORMULA_ELLIPSOID_SUBSONIC_PRESSURE_DRAG, fineness_ratio, mach, 0,
+                        0, 0, value);
 }
 
 /* cobalnis_stagnation_pressure_ratio without its test. */
 static inline double cobalnis_stagnation_ratio(double mach)
 {
-    return cobalnis_step_of(19, mach, 0);
+    return cobalnis_step_of(COBALNIS_FORMULA_STAGNATION_RATIO, mach, 0);
 }
 
 /* The parameters of the two Haack shapes that have names. */
 static inline double cobalnis_von_karman(void)
 {
-    return cobalnis_step_of(20, 0, 0);
+    return cobalnis_step_of(COBALNIS_FORMULA_VON_KARMAN, 0, 0);
 }
 
 static inline double cobalnis_lv_haack(void)
 {
-    return cobalnis_step_of(21, 0, 0);
+    return cobalnis_step_of(COBALNIS_FORMULA_LV_HAACK, 0, 0);
 }
 
 /* value: the value refused, or 0. */
@@ -528,9 +584,7 @@ static inline uint32_t cobalnis_sheet_set_column(cobalnis_sheet *sheet, size_t c
     return cobalnis_answer(status, bits, value);
 }
 
-/* The cells of a row, one a column: row 0 to 15 a part's, then these. */
-enum { COBALNIS_FRICTION = 16, COBALNIS_BASE = 17, COBALNIS_TOTAL = 18 };
-
+/* The cells of a row, one a column. */
 static inline const double *cobalnis_sheet_row(const cobalnis_sheet *sheet, size_t row,
                                                const double *cells)
 {

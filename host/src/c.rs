@@ -5,15 +5,17 @@
 //! null (an empty slice's too), a `&mut` overlaps nothing else, and a slice has as many items as
 //! its length. The C side asks nothing of the numbers.
 
-/// Words of a part and of a sheet.
-pub const PART_WORDS: usize = 6;
-pub const SHEET_WORDS: usize = 165;
+use crate::{COLUMNS, PLACES};
 
 /// Where the words of a sheet begin: Machs, Reynolds numbers, the number of parts, the parts.
 pub const MACHS: usize = 4;
-pub const REYNOLDS: usize = 36;
-pub const PARTS: usize = 68;
-pub const FIRST_PART: usize = 69;
+pub const REYNOLDS: usize = MACHS + COLUMNS;
+pub const PARTS: usize = REYNOLDS + COLUMNS;
+pub const FIRST_PART: usize = PARTS + 1;
+
+/// Words of a part and of a sheet.
+pub const PART_WORDS: usize = 6;
+pub const SHEET_WORDS: usize = FIRST_PART + PLACES * PART_WORDS;
 
 pub type PartWords = [u64; PART_WORDS];
 pub type SheetWords = [u64; SHEET_WORDS];
@@ -286,14 +288,14 @@ pub fn read_part(bytes: &[u8], at: usize, part: &mut PartWords) -> (u32, usize) 
     (status, next)
 }
 
-/// How many bytes of `out` were written; 0 if it has fewer than 11033.
+/// How many bytes of `out` were written; 0 if it has fewer than the longest text needs.
 pub fn print(bytes: &[u8], out: &mut [u8]) -> usize {
     // SAFETY: each pointer comes with its slice's own length, and `out` is borrowed mutably, so
     // apart from `bytes`.
     unsafe { raw::cobalnis_print(bytes.as_ptr(), bytes.len(), out.as_mut_ptr(), out.len()) }
 }
 
-/// Gives every NaN among the cells the bits 7ff8000000000000, as document 01 hands one out. Whole
+/// Gives every NaN among the cells the bits 7ff8000000000000 (docs/REFERENCE.md, Numbers). Whole
 /// numbers are compared, since a compiler may take any NaN for any other.
 pub fn settle(cells: &mut [f64]) {
     const NAN: u64 = 0x7ff8_0000_0000_0000;

@@ -1,19 +1,83 @@
-//! One function for each formula, under the original's name and with its order of arguments.
+//! The formulas and their numbers, and one function for each, under the original's name and with its
+//! order of arguments.
 
 use crate::{c, Refusal};
 
-/// A formula by its number, the arguments that it doesn't look at being 0.
-fn ask<const N: usize>(which: u32, arguments: [f64; N]) -> Result<f64, Refusal> {
+macro_rules! numbered {
+    ($($formula:ident $name:literal),* $(,)?) => {
+        /// A formula. Its number in the C interface is its place here; include/cobalnis.h lists
+        /// them in the same order, which tests/numbers.rs holds them to.
+        #[derive(Debug, Clone, Copy, PartialEq, Eq)]
+        pub enum Formula {
+            $($formula),*
+        }
+
+        impl Formula {
+            /// All of them, in the order of their numbers.
+            pub const ALL: &'static [Self] = &[$(Self::$formula),*];
+
+            /// The original's name.
+            pub fn name(self) -> &'static str {
+                match self {
+                    $(Self::$formula => $name),*
+                }
+            }
+
+            /// The formula of a number, if it has one.
+            pub fn of(number: u32) -> Option<Self> {
+                $(if number == Self::$formula as u32 {
+                    return Some(Self::$formula);
+                })*
+                None
+            }
+        }
+    };
+}
+
+numbered! {
+    Sqrt "sqrt",
+    Ln "ln",
+    Exp "exp",
+    Powf "powf",
+    Sin "sin",
+    CheckMachAny "check_mach_any",
+    CriticalReynolds "critical_reynolds",
+    IncompressibleSkinFriction "incompressible_skin_friction",
+    SkinFrictionCoefficient "skin_friction_coefficient",
+    BodyFrictionFormFactor "body_friction_form_factor",
+    StagnationPressureRatio "stagnation_pressure_ratio",
+    StagnationDragCoefficient "stagnation_drag_coefficient",
+    BaseDragCoefficient "base_drag_coefficient",
+    JointPressureDragCoefficient "joint_pressure_drag_coefficient",
+    BoattailFactor "boattail_factor",
+    SubsonicPressureDragCoefficient "subsonic_pressure_drag_coefficient",
+    OgivePressureDragFactor "ogive_pressure_drag_factor",
+    FinenessScaledPressureDrag "fineness_scaled_pressure_drag",
+    EllipsoidSubsonicPressureDrag "ellipsoid_subsonic_pressure_drag",
+    StagnationRatio "stagnation_ratio",
+    VonKarman "VON_KARMAN",
+    LvHaack "LV_HAACK",
+}
+
+impl Formula {
+    /// The number that `words::formula` takes.
+    pub fn number(self) -> u32 {
+        self as u32
+    }
+}
+
+/// A formula's answer, the arguments that it doesn't look at being 0.
+fn ask<const N: usize>(formula: Formula, arguments: [f64; N]) -> Result<f64, Refusal> {
     let mut all = [0.0; 5];
     all[..N].copy_from_slice(&arguments);
-    let (status, bits) = c::formula(which, all);
+    let (status, bits) = c::formula(formula.number(), all);
     Refusal::of(status, bits)?;
     Ok(f64::from_bits(bits))
 }
 
 /// One of the fixed steps, which refuse nothing.
-fn step<const N: usize>(which: u32, arguments: [f64; N]) -> f64 {
-    match ask(which, arguments) {
+fn step<const N: usize>(formula: Formula, arguments: [f64; N]) -> f64 {
+    match ask(formula, arguments) {
         Ok(value) => value,
         Err(_) => unreachable!("a fixed step refuses nothing"),
     }
@@ -21,37 +85,37 @@ fn step<const N: usize>(which: u32, arguments: [f64; N]) -> f64 {
 
 /// SQRT: the binary64 number nearest the exact root.
 pub fn sqrt(x: f64) -> f64 {
-    step(0, [x])
+    step(Formula::Sqrt, [x])
 }
 
 /// LN.
 pub fn ln(x: f64) -> f64 {
-    step(1, [x])
+    step(Formula::Ln, [x])
 }
 
 /// EXP.
 pub fn exp(y: f64) -> f64 {
-    step(2, [y])
+    step(Formula::Exp, [y])
 }
 
 /// POW: `x` to the power `y`.
 pub fn powf(x: f64, y: f64) -> f64 {
-    step(3, [x, y])
+    step(Formula::Powf, [x, y])
 }
 
 /// SIN.
 pub fn sin(x: f64) -> f64 {
-    step(4, [x])
+    step(Formula::Sin, [x])
 }
 
 /// Passes a finite Mach number that isn't below 0.
 pub fn check_mach_any(mach: f64) -> Result<(), Refusal> {
-    ask(5, [mach]).map(|_| ())
+    ask(Formula::CheckMachAny, [mach]).map(|_| ())
 }
 
 /// The Reynolds number from which roughness decides the friction.
 pub fn critical_reynolds(relative_roughness: f64) -> Result<f64, Refusal> {
-    ask(6, [relative_roughness])
+    ask(Formula::CriticalReynolds, [relative_roughness])
 }
 
 /// Skin friction without the effect of speed.
@@ -59,7 +123,10 @@ pub fn incompressible_skin_friction(
     reynolds: f64,
     relative_roughness: f64,
 ) -> Result<f64, Refusal> {
-    ask(7, [reynolds, relative_roughness])
+    ask(
+        Formula::IncompressibleSkinFriction,
+        [reynolds, relative_roughness],
+    )
 }
 
 /// Skin friction at a Mach number.
@@ -68,32 +135,35 @@ pub fn skin_friction_coefficient(
     relative_roughness: f64,
     mach: f64,
 ) -> Result<f64, Refusal> {
-    ask(8, [reynolds, relative_roughness, mach])
+    ask(
+        Formula::SkinFrictionCoefficient,
+        [reynolds, relative_roughness, mach],
+    )
 }
 
 /// The factor of a body's friction for its fineness.
 pub fn body_friction_form_factor(fineness_ratio: f64) -> Result<f64, Refusal> {
-    ask(9, [fineness_ratio])
+    ask(Formula::BodyFrictionFormFactor, [fineness_ratio])
 }
 
 /// Stagnation pressure over dynamic pressure.
 pub fn stagnation_pressure_ratio(mach: f64) -> Result<f64, Refusal> {
-    ask(10, [mach])
+    ask(Formula::StagnationPressureRatio, [mach])
 }
 
 /// The drag of a blunt cylinder.
 pub fn stagnation_drag_coefficient(mach: f64) -> Result<f64, Refusal> {
-    ask(11, [mach])
+    ask(Formula::StagnationDragCoefficient, [mach])
 }
 
 /// The drag of a blunt end.
 pub fn base_drag_coefficient(mach: f64) -> Result<f64, Refusal> {
-    ask(12, [mach])
+    ask(Formula::BaseDragCoefficient, [mach])
 }
 
 /// The drag at rest of a joint of this angle, in radians.
 pub fn joint_pressure_drag_coefficient(joint_angle_rad: f64) -> Result<f64, Refusal> {
-    ask(13, [joint_angle_rad])
+    ask(Formula::JointPressureDragCoefficient, [joint_angle_rad])
 }
 
 /// A boattail's share of the base drag.
@@ -102,7 +172,10 @@ pub fn boattail_factor(
     fore_diameter_m: f64,
     aft_diameter_m: f64,
 ) -> Result<f64, Refusal> {
-    ask(14, [length_m, fore_diameter_m, aft_diameter_m])
+    ask(
+        Formula::BoattailFactor,
+        [length_m, fore_diameter_m, aft_diameter_m],
+    )
 }
 
 /// The drag between rest and the transonic method's lower bound.
@@ -113,12 +186,15 @@ pub fn subsonic_pressure_drag_coefficient(
     mach_low: f64,
     mach: f64,
 ) -> Result<f64, Refusal> {
-    ask(15, [c_rest, c_low, slope_low, mach_low, mach])
+    ask(
+        Formula::SubsonicPressureDragCoefficient,
+        [c_rest, c_low, slope_low, mach_low, mach],
+    )
 }
 
 /// An ogive's drag over that of a cone as long and wide.
 pub fn ogive_pressure_drag_factor(kappa: f64) -> Result<f64, Refusal> {
-    ask(16, [kappa])
+    ask(Formula::OgivePressureDragFactor, [kappa])
 }
 
 /// The drag at fineness 3 scaled to another.
@@ -127,15 +203,21 @@ pub fn fineness_scaled_pressure_drag(
     c0: f64,
     fineness_ratio: f64,
 ) -> Result<f64, Refusal> {
-    ask(17, [c3, c0, fineness_ratio])
+    ask(
+        Formula::FinenessScaledPressureDrag,
+        [c3, c0, fineness_ratio],
+    )
 }
 
 /// An elliptical nose's drag below Mach 0.8.
 pub fn ellipsoid_subsonic_pressure_drag(fineness_ratio: f64, mach: f64) -> Result<f64, Refusal> {
-    ask(18, [fineness_ratio, mach])
+    ask(
+        Formula::EllipsoidSubsonicPressureDrag,
+        [fineness_ratio, mach],
+    )
 }
 
 /// [`stagnation_pressure_ratio`] without its test.
 pub fn stagnation_ratio(mach: f64) -> f64 {
-    step(19, [mach])
+    step(Formula::StagnationRatio, [mach])
 }

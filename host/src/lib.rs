@@ -1,5 +1,5 @@
-//! The drag of a model rocket's noses, skin and base, and the sheet that adds them: document 01's
-//! functions, proved for all inputs, for programs in Rust.
+//! The drag of a model rocket's noses, skin and base, and the sheet that adds them: the
+//! functions of docs/REFERENCE.md, proved for all inputs, for programs in Rust.
 //!
 //! Every function takes every input and answers a value or a [`Refusal`]; none panics, waits or
 //! allocates behind your back (the few that answer a `Vec` or a `String` aside). A NaN answer is
@@ -18,6 +18,7 @@ mod refusal;
 mod sheet;
 
 pub use curve::{takes_cone_formula, Curve, Nose, Shape};
+pub use formulas::Formula;
 pub use refusal::{check_dimension, Quantity, Refusal};
 pub use sheet::{print, Column, Part, Settings, Sheet, COLUMNS, PLACES, ROWS};
 
@@ -33,6 +34,7 @@ pub mod words {
         read_settings, remove, replace, set_column, takes_cone_formula, PartWords, SheetWords,
         FIRST_PART, MACHS, PARTS, PART_WORDS, REYNOLDS, SHEET_WORDS,
     };
+    pub use crate::sheet::LONGEST_TEXT;
 }
 
 /// The README's example is compiled and run as a test.

@@ -1,4 +1,5 @@
-//! Refusals: document 01's numbers, the codes of refusal 1, and their plain words.
+//! Refusals: their numbers and the codes of refusal 1 (docs/REFERENCE.md, Refusals and Codes), and
+//! their plain words.
 
 use std::error::Error;
 use std::fmt;
@@ -8,7 +9,7 @@ use crate::c;
 /// Why a call was refused. Nothing was changed by it.
 #[derive(Debug, Clone, Copy)]
 pub struct Refusal {
-    /// Document 01's number, 1 to 11.
+    /// Its number, 1 to 11 (docs/REFERENCE.md, Refusals).
     pub number: u8,
     /// For number 1 the code of the quantity, 1 to 22, else 0.
     pub code: u8,
@@ -128,7 +129,7 @@ impl Quantity {
         Self::BoattailFore,
     ];
 
-    /// Document 01's code.
+    /// Its code (docs/REFERENCE.md, Codes).
     pub fn code(self) -> u8 {
         self as u8
     }

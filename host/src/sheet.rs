@@ -8,18 +8,17 @@ use crate::{Refusal, Shape};
 /// Columns and parts that a sheet has room for.
 pub const COLUMNS: usize = 32;
 pub const PLACES: usize = 16;
-/// Rows of cells: 16 parts, friction, base, total.
-pub const ROWS: usize = PLACES + 3;
+/// Rows of cells: a row for each place, friction, base, total.
+pub const ROWS: usize = TOTAL + 1;
 
 const FRICTION: usize = PLACES;
-const BASE: usize = PLACES + 1;
-const TOTAL: usize = PLACES + 2;
+const BASE: usize = FRICTION + 1;
+const TOTAL: usize = BASE + 1;
 
-const _: () = assert!(REYNOLDS == MACHS + COLUMNS && PARTS == REYNOLDS + COLUMNS);
-const _: () = assert!(FIRST_PART + PLACES * PART_WORDS == SHEET_WORDS);
-
-/// What [`print`] needs at most.
-const LONGEST_TEXT: usize = 11033;
+/// What [`print`] needs at most: a line for Mach, each place, friction, base and total, of a name,
+/// a space and 16 digits a column, and a line feed.
+pub const LONGEST_TEXT: usize =
+    4 + 8 + 4 + 5 + 7 * PLACES + (1 + ROWS) * (COLUMNS * 17 + 1);
 
 /// One column: what the drag is asked at.
 #[derive(Debug, Clone, Copy, PartialEq)]
@@ -36,7 +35,7 @@ pub struct Settings {
     /// From 0 to 1.
     pub roughness: f64,
     pub body_fineness: f64,
-    /// At most 32.
+    /// At most [`COLUMNS`].
     pub columns: Vec<Column>,
 }
 
@@ -141,7 +140,7 @@ pub struct Sheet<'cells> {
 }
 
 impl<'cells> Sheet<'cells> {
-    /// Opens a sheet without parts over these cells, of which it needs 19 a column; those past
+    /// Opens a sheet without parts over these cells, of which it needs [`ROWS`] a column; those past
     /// them are never written.
     pub fn open(settings: &Settings, cells: &'cells mut [f64]) -> Result<Self, Refusal> {
         let mut words = settings.words();
@@ -232,7 +231,7 @@ impl<'cells> Sheet<'cells> {
         &self.words
     }
 
-    /// A call's answer; an accepted call's NaN cells get document 01's bits.
+    /// A call's answer; an accepted call's NaN cells get the bits of docs/REFERENCE.md, Numbers.
     fn accept(&mut self, (status, bits): (u32, u64)) -> Result<(), Refusal> {
         Refusal::of(status, bits)?;
         let used = ROWS * self.column_count();

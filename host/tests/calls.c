@@ -20,7 +20,7 @@ static int failures = 0;
 
 static const uint64_t SHOWN_NAN = 0x7ff8000000000000u;
 
-/* Document 01's cards: D and B of 1, one column at rest, a flat face. */
+/* The cards of docs/REFERENCE.md, Example: D and B of 1, one column at rest, a flat face. */
 static const uint8_t CARDS[] = {
     0x0d, 0, 0, 0, 0, 0, 0, 0xf0, 0x3f, 0, 0, 0, 0, 0, 0, 0xf0, 0x3f,
     0x01, 0, 0, 0, 0, 0, 0, 0,    0,    0, 0, 0, 0, 0, 0, 0,    0,
@@ -32,12 +32,14 @@ static const cobalnis_part FACE = {COBALNIS_CONICAL, 0, 0, 1, 0, 0};
 static void raw_formulas(void)
 {
     uint64_t bits = 7;
-    CHECK(cobalnis_formula(12, 0, NAN, NAN, NAN, NAN, &bits) == 0);
+    const uint32_t base = COBALNIS_FORMULA_BASE_DRAG_COEFFICIENT;
+    CHECK(cobalnis_formula(base, 0, NAN, NAN, NAN, NAN, &bits) == 0);
     CHECK(cobalnis_double(bits) == 0.12);
-    CHECK(cobalnis_formula(12, NAN, 0, 0, 0, 0, &bits) == DOMAIN_OF(COBALNIS_MACH));
+    CHECK(cobalnis_formula(base, NAN, 0, 0, 0, 0, &bits) == DOMAIN_OF(COBALNIS_MACH));
     CHECK(bits == SHOWN_NAN);
     bits = 7;
-    CHECK(cobalnis_formula(22, 0, 0, 0, 0, 0, &bits) == COBALNIS_NO_SUCH && bits == 7);
+    const uint32_t none = COBALNIS_FORMULA_LV_HAACK + 1;
+    CHECK(cobalnis_formula(none, 0, 0, 0, 0, 0, &bits) == COBALNIS_NO_SUCH && bits == 7);
     CHECK(cobalnis_von_karman() == 0 && cobalnis_lv_haack() == 1.0 / 3);
 
     CHECK(cobalnis_check_dimension(2, -0.0, true, &bits) == 0 && bits == 0);
@@ -154,19 +156,20 @@ static bool is_formula(double x, uint32_t which, double a, double b, double c, d
 static void arguments_in_order(void)
 {
     double x = 7;
-    CHECK(is_formula(cobalnis_powf(2, 0.3), 3, 2, 0.3, 0, 0, 0));
+    CHECK(is_formula(cobalnis_powf(2, 0.3), COBALNIS_FORMULA_POWF, 2, 0.3, 0, 0, 0));
     CHECK(cobalnis_incompressible_skin_friction(1e6, 1e-3, &x) == 0);
-    CHECK(is_formula(x, 7, 1e6, 1e-3, 0, 0, 0));
+    CHECK(is_formula(x, COBALNIS_FORMULA_INCOMPRESSIBLE_SKIN_FRICTION, 1e6, 1e-3, 0, 0, 0));
     CHECK(cobalnis_skin_friction_coefficient(1e6, 1e-3, 0.5, &x) == 0);
-    CHECK(is_formula(x, 8, 1e6, 1e-3, 0.5, 0, 0));
+    CHECK(is_formula(x, COBALNIS_FORMULA_SKIN_FRICTION_COEFFICIENT, 1e6, 1e-3, 0.5, 0, 0));
     CHECK(cobalnis_boattail_factor(0.2, 0.3, 0.2, &x) == 0);
-    CHECK(is_formula(x, 14, 0.2, 0.3, 0.2, 0, 0));
+    CHECK(is_formula(x, COBALNIS_FORMULA_BOATTAIL_FACTOR, 0.2, 0.3, 0.2, 0, 0));
     CHECK(cobalnis_subsonic_pressure_drag_coefficient(0.01, 0.2, 1.5, 0.9, 0.6, &x) == 0);
-    CHECK(is_formula(x, 15, 0.01, 0.2, 1.5, 0.9, 0.6));
+    CHECK(is_formula(x, COBALNIS_FORMULA_SUBSONIC_PRESSURE_DRAG_COEFFICIENT, 0.01, 0.2, 1.5, 0.9,
+                     0.6));
     CHECK(cobalnis_fineness_scaled_pressure_drag(0.1, 0.9, 5, &x) == 0);
-    CHECK(is_formula(x, 17, 0.1, 0.9, 5, 0, 0));
+    CHECK(is_formula(x, COBALNIS_FORMULA_FINENESS_SCALED_PRESSURE_DRAG, 0.1, 0.9, 5, 0, 0));
     CHECK(cobalnis_ellipsoid_subsonic_pressure_drag(0.3, 0.6, &x) == 0);
-    CHECK(is_formula(x, 18, 0.3, 0.6, 0, 0, 0));
+    CHECK(is_formula(x, COBALNIS_FORMULA_ELLIPSOID_SUBSONIC_PRESSURE_DRAG, 0.3, 0.6, 0, 0, 0));
 }
 
 static void curves(void)
@@ -189,7 +192,7 @@ static void curves(void)
     CHECK(cobalnis_curve_new(7, 0, 1, 0, &curve, &x) == COBALNIS_NO_SUCH);
 }
 
-/* A sheet of document 01's example, opened over these cells. */
+/* The sheet of docs/REFERENCE.md, Example, opened over these cells. */
 static cobalnis_sheet example(double *cells, size_t lent)
 {
     cobalnis_sheet sheet = {.reference_diameter = 1, .body_fineness = 1, .columns = 1};

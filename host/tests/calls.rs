@@ -1,4 +1,5 @@
-//! Each function of the wrapper, accepted and refused, with document 01's own values.
+//! Each function of the wrapper, accepted and refused, with the values of docs/REFERENCE.md,
+//! Values.
 
 use cobalnis::formulas::*;
 use cobalnis::{
@@ -190,7 +191,7 @@ fn curves_refused() {
     assert_eq!(Curve::new(Shape::Elliptical, 1.0, NAN), Err(refused));
 }
 
-/// Document 01's settings: D and B of 1, one column at rest.
+/// The settings of docs/REFERENCE.md, Example: D and B of 1, one column at rest.
 fn settings() -> Settings {
     Settings {
         reference_diameter: 1.0,
@@ -203,7 +204,7 @@ fn settings() -> Settings {
     }
 }
 
-/// Document 01's part: a flat face of diameter 1.
+/// The part of docs/REFERENCE.md, Example: a flat face of diameter 1.
 const FACE: Part = Part {
     shape: Shape::Conical,
     length: 0.0,
@@ -342,7 +343,7 @@ fn opens_refused() {
     assert_eq!(number(&none, 0), Ok(()));
 }
 
-/// Document 01's bytes.
+/// The bytes of docs/REFERENCE.md, Example.
 fn stream() -> Vec<u8> {
     let one = 1.0f64.to_le_bytes();
     let mut bytes = vec![0x0d];
@@ -402,7 +403,10 @@ fn longest_print() {
 #[test]
 fn words_that_name_nothing() {
     use cobalnis::words;
-    assert_eq!(words::formula(22, [1.0; 5]), (65535, 0));
+    assert_eq!(
+        words::formula(Formula::ALL.len() as u32, [1.0; 5]),
+        (65535, 0)
+    );
     assert_eq!(words::check_dimension(0, 1.0, true), (65535, 0));
     assert_eq!(words::check_dimension(23, 1.0, true), (65535, 0));
     assert_eq!(words::takes_cone_formula(6, 1.0), 65535);

@@ -1,5 +1,5 @@
 //! Runs the program `sheet` on many streams of cards and compares what it prints, byte for byte,
-//! with the model of document 01's cards.
+//! with the model of the cards (docs/REFERENCE.md, Cards).
 //!
 //!     cargo run --release --offline --bin sheet_fuzz -- PATH_TO_SHEET COUNT SEED
 //!

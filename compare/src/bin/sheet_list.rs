@@ -1,44 +1,32 @@
-//! Prints lists of calls on a sheet with the answers and the cells that the model of document 01's
-//! sheet gives, for the program that replays them.
+//! Prints lists of calls on a sheet with the answers and the cells that the model of the
+//! sheet (docs/REFERENCE.md, Sheet) gives, for the program that replays them.
 //!
 //!     cargo run --release --offline --bin sheet_list > ../crates/sheet_vectors/stdin
 //!
-//! A line is 161 bytes: the tag, seven arguments of 16 hexadecimal digits (zeros where there is
-//! none), the refusal number (00 accepted), document 01's code of the refusal (00 for none), 16
-//! hexadecimal digits of the value refused (zeros for none), and 16 of the state after the line.
-//! One space between, a line feed at the end. Floats are written as their bits.
+//! A line is 189 bytes: a tag and eleven words. The first eight are the arguments (zeros where there
+//! are fewer), then come the status, the value refused (zeros for none) and the number of the state
+//! after the line. The tags and their arguments are listed at the top of
+//! crates/sheet_vectors/src/main.rt.
 //!
-//! The state is a sheet and a buffer of 640 cells, all +0 before the first line; the sheet begins
-//! with zeros, no columns and no parts. Calls, which take the sheet and the first so many cells of
-//! the buffer, and leave the sheet that they hand back:
-//! - `o` open with the sheet's settings
-//! - `r` replace at a place, `i` insert at a place: place, shape, shape parameter, L, d, joint
-//!   angle, w
-//! - `m` remove at a place: place
-//! - `t` set column: column, M, R
-//!
-//! Lines that change the state by hand, accepted always, so that a call meets any sheet and any
-//! cells:
-//! - `s` the settings: D, roughness, B, count of columns
-//! - `c` a column's numbers: column, M, R
-//! - `h` a held part: place, and the part as above
-//! - `n` the count of parts
-//! - `l` how many cells are lent
-//! - `f` all cells: cell k has the bits a + k × b, without carry out of 64 bits
-//! - `p` one cell: its index, its bits
+//! The state is a sheet's words and a buffer of 640 cells, all zeros before the first line. A call
+//! takes the words and the first so many cells of the buffer. Lines that change the state by hand are
+//! accepted always, so that a call meets any sheet and any cells.
 //!
 //! The state's number h is made of 64-bit words x, one after the other, from h = 0xcbf29ce484222325:
 //! h is h xor x, turned left by 23 bits, times 0x100000001b3 without carry out of 64 bits. The
 //! words: D, roughness, B, the count of columns, M and R of each column (32 at most), the count of
-//! parts, each part (16 at most) as a line writes it, and the 640 cells. Every NaN is
+//! parts, each part's six words (16 parts at most), and the 640 cells. Every NaN is
 //! 7ff8000000000000, and a shape without a parameter has zeros for it.
 
 use std::io::{BufWriter, StdoutLock, Write};
 
+use cobalnis::words::{PartWords, FIRST_PART, MACHS, PARTS, PART_WORDS, REYNOLDS};
 use compare::answer_bits;
 use compare::arguments::Arguments;
 use compare::cards::{of_shape, shape_of};
 use compare::inputs::{specials, NANS};
+use compare::list::line;
+use compare::mirror::status;
 use compare::model::{
     insert, open, remove, replace, set_column, Column, Design, Part, Settings, Sheet, COLUMNS,
     NO_PART, PLACES, ROWS,
@@ -53,11 +41,13 @@ fn mixed(h: u64, x: u64) -> u64 {
     (h ^ x).rotate_left(23).wrapping_mul(0x100_0000_01b3)
 }
 
-/// A place and a part, as a line writes them, with a bit function for the floats.
-fn part_words(place: u64, part: &Part, bits: fn(f64) -> u64) -> [u64; 7] {
+/// The word from which on a line has its answer.
+const ANSWER: usize = 8;
+
+/// A part's words, with a bit function for the floats.
+fn part_words(part: &Part, bits: fn(f64) -> u64) -> PartWords {
     let (number, parameter) = of_shape(part.shape);
     [
-        place,
         number,
         bits(parameter),
         bits(part.length),
@@ -65,6 +55,13 @@ fn part_words(place: u64, part: &Part, bits: fn(f64) -> u64) -> [u64; 7] {
         bits(part.joint_angle),
         bits(part.wetted_ratio),
     ]
+}
+
+/// A place and the words of the part that goes there.
+fn put(place: usize, part: &Part) -> Vec<u64> {
+    let mut words = vec![place as u64];
+    words.extend(part_words(part, f64::to_bits));
+    words
 }
 
 struct Play {
@@ -95,8 +92,8 @@ impl Play {
         let design = &self.sheet.design;
         h = mixed(h, design.count as u64);
         for part in &design.parts[..design.count.min(PLACES)] {
-            for word in &part_words(0, part, answer_bits)[1..] {
-                h = mixed(h, *word);
+            for word in part_words(part, answer_bits) {
+                h = mixed(h, word);
             }
         }
         for &cell in &self.cells {
@@ -106,15 +103,19 @@ impl Play {
     }
 
     fn line(&mut self, tag: char, args: &[u64], answer: Answer) {
-        let mut line = tag.to_string();
-        for i in 0..7 {
-            line.push_str(&format!(" {:016x}", args.get(i).unwrap_or(&0)));
-        }
-        let number = self.number();
-        writeln!(self.out, "{line} {answer} {number:016x}").expect("standard output");
+        let answer = [status(answer).into(), answer.bits, self.number()];
+        let line = line(tag, ANSWER, args, &answer);
+        writeln!(self.out, "{line}").expect("standard output");
     }
 
     // ---- changes by hand
+
+    /// Words of the sheet from a place on, which the sheet has already.
+    fn words(&mut self, at: usize, words: &[u64]) {
+        let mut args = vec![at as u64, words.len() as u64];
+        args.extend(words);
+        self.line('w', &args, Answer::accepted(0));
+    }
 
     fn settings(&mut self, d: f64, roughness: f64, b: f64, count: usize) {
         let settings = &mut self.sheet.settings;
@@ -122,25 +123,30 @@ impl Play {
         settings.roughness = roughness;
         settings.body_fineness = b;
         settings.count = count;
-        let args = [d.to_bits(), roughness.to_bits(), b.to_bits(), count as u64];
-        self.line('s', &args, Answer::accepted(0));
+        self.words(
+            0,
+            &[d.to_bits(), roughness.to_bits(), b.to_bits(), count as u64],
+        );
     }
 
     fn column(&mut self, at: usize, column: Column) {
-        self.sheet.settings.columns[at] = column;
-        let args = [at as u64, column.mach.to_bits(), column.reynolds.to_bits()];
-        self.line('c', &args, Answer::accepted(0));
+        self.sheet.settings.columns[at].mach = column.mach;
+        self.words(MACHS + at, &[column.mach.to_bits()]);
+        self.sheet.settings.columns[at].reynolds = column.reynolds;
+        self.words(REYNOLDS + at, &[column.reynolds.to_bits()]);
     }
 
     fn hold(&mut self, place: usize, part: Part) {
         self.sheet.design.parts[place] = part;
-        let args = part_words(place as u64, &part, f64::to_bits);
-        self.line('h', &args, Answer::accepted(0));
+        self.words(
+            FIRST_PART + PART_WORDS * place,
+            &part_words(&part, f64::to_bits),
+        );
     }
 
     fn parts(&mut self, count: usize) {
         self.sheet.design.count = count;
-        self.line('n', &[count as u64], Answer::accepted(0));
+        self.words(PARTS, &[count as u64]);
     }
 
     fn lend(&mut self, lent: usize) {
@@ -178,14 +184,12 @@ impl Play {
 
     fn replace(&mut self, place: usize, part: Part) -> Answer {
         let back = replace(&self.sheet, place, &part, &mut self.cells[..self.lent]);
-        let args = part_words(place as u64, &part, f64::to_bits);
-        self.handed('r', &args, back)
+        self.handed('r', &put(place, &part), back)
     }
 
     fn insert(&mut self, place: usize, part: Part) -> Answer {
         let back = insert(&self.sheet, place, &part, &mut self.cells[..self.lent]);
-        let args = part_words(place as u64, &part, f64::to_bits);
-        self.handed('i', &args, back)
+        self.handed('i', &put(place, &part), back)
     }
 
     fn remove(&mut self, place: usize) -> Answer {
@@ -341,8 +345,8 @@ impl Play {
             }
         }
         for place in 0..whole.design.count {
-            let is = part_words(0, &self.sheet.design.parts[place], f64::to_bits);
-            let was = part_words(0, &whole.design.parts[place], f64::to_bits);
+            let is = part_words(&self.sheet.design.parts[place], f64::to_bits);
+            let was = part_words(&whole.design.parts[place], f64::to_bits);
             if is != was {
                 self.hold(place, whole.design.parts[place]);
             }
@@ -571,7 +575,7 @@ fn main() {
         lent: 0,
         calls: 0,
     };
-    // Document 01's own sheet.
+    // The sheet of docs/REFERENCE.md, Example.
     play.settings(1.0, 0.0, 1.0, 1);
     play.lend(ROWS);
     play.open();

@@ -2,12 +2,12 @@
 //!
 //!     cargo run --release --offline --bin side_by_side [-- SCALE]
 //!
-//! Each function of document 01 is asked at a million inputs or more, SCALE times that if given.
-//! The first table counts disagreements with the original with the fixed steps (the sheet and the
-//! cards: with their models over it). The second measures the port against the untouched original,
-//! whose ln, powf and sin are the machine's own; it fails nothing. The last line says how many
-//! disagreements there are in all, and the exit status is 1 if there are any. The inputs are the
-//! same on every run.
+//! Each function of docs/REFERENCE.md, Ported, is asked at a million inputs or more, SCALE times
+//! that if given. The first table counts disagreements with the original with the fixed steps (the
+//! sheet and the cards: with their models over it). The second measures the port against the
+//! untouched original, whose ln, powf and sin are the machine's own; it fails nothing. The last
+//! line says how many disagreements there are in all, and the exit status is 1 if there are any.
+//! The inputs are the same on every run.
 
 use std::process::ExitCode;
 

@@ -10,11 +10,11 @@
 use std::hint::black_box;
 use std::time::{Duration, Instant};
 
-use cobalnis::raw;
 use cobalnis::words::{
     PartWords, SheetWords, FIRST_PART, MACHS, PARTS, PART_WORDS, REYNOLDS, SHEET_WORDS,
 };
-use compare::builds::{FORMULAS, SHAPES, STEP};
+use cobalnis::{raw, Formula};
+use compare::builds::{self, SHAPES, STEP};
 use compare::inputs::Random;
 use compare::mirror_c as theirs;
 use compare::model::{COLUMNS, PLACES, ROWS};
@@ -31,7 +31,7 @@ const HALF_PI: f64 = std::f64::consts::FRAC_PI_2;
 const NOTES: &str = "
 - Formulas go through one numbered function on either side, so each pays for finding its formula.
 - `coefficient` is asked 1024 times for each curve built.
-- The original has no sheet and no cards; there the other side is the model of document 01
+- The original has no sheet and no cards; there the other side is a model of each
   (model.rs, cards.rs) over the original's functions. It builds each curve once a call, but it
   allocates a vector for each row that it tries and writes, and takes the boattail factor, the form
   factor and the wetted sum anew at each column.
@@ -95,47 +95,49 @@ fn nanoseconds(time: f64) -> String {
 // ---- formulas
 
 /// What a formula is asked at the table: numbers of a club's rockets.
-fn plausible(which: usize, r: &mut Random) -> [f64; 5] {
+fn plausible(which: Formula, r: &mut Random) -> [f64; 5] {
     let mut x = [0.0; 5];
     match which {
-        0 => x[0] = r.scaled(1e-3, 1e3),
-        1 => x[0] = r.scaled(1e-3, 1e10),
-        2 => x[0] = r.between(-60.0, 60.0),
-        3 => (x[0], x[1]) = (r.scaled(1e-3, 1.5), r.between(0.0, 5.0)),
-        4 | 13 => x[0] = r.between(0.0, HALF_PI),
-        6 => x[0] = r.scaled(1e-7, 1e-2),
-        7 | 8 => {
+        Formula::Sqrt => x[0] = r.scaled(1e-3, 1e3),
+        Formula::Ln => x[0] = r.scaled(1e-3, 1e10),
+        Formula::Exp => x[0] = r.between(-60.0, 60.0),
+        Formula::Powf => (x[0], x[1]) = (r.scaled(1e-3, 1.5), r.between(0.0, 5.0)),
+        Formula::Sin | Formula::JointPressureDragCoefficient => x[0] = r.between(0.0, HALF_PI),
+        Formula::CriticalReynolds => x[0] = r.scaled(1e-7, 1e-2),
+        Formula::IncompressibleSkinFriction | Formula::SkinFrictionCoefficient => {
             (x[0], x[1]) = (r.scaled(1e4, 1e9), r.scaled(1e-7, 1e-2));
             x[2] = r.between(0.0, 3.0);
         }
-        9 => x[0] = r.between(1.0, 30.0),
-        14 => {
+        Formula::BodyFrictionFormFactor => x[0] = r.between(1.0, 30.0),
+        Formula::BoattailFactor => {
             x[1] = r.between(0.05, 0.3);
             x[2] = x[1] * r.between(0.0, 0.95);
             x[0] = (x[1] - x[2]) * r.between(0.0, 4.0);
         }
-        15 => {
+        Formula::SubsonicPressureDragCoefficient => {
             (x[0], x[1]) = (r.between(0.0, 0.1), r.between(0.0, 0.9));
             (x[2], x[3]) = (r.between(0.0, 4.0), r.pick(&[0.8, 1.0]));
             x[4] = r.between(0.0, x[3]);
         }
-        16 => x[0] = r.between(0.0, 1.0),
-        17 => {
+        Formula::OgivePressureDragFactor => x[0] = r.between(0.0, 1.0),
+        Formula::FinenessScaledPressureDrag => {
             (x[0], x[1], x[2]) = (
                 r.between(0.01, 0.3),
                 r.between(0.85, 1.5),
                 r.between(0.5, 8.0),
             )
         }
-        18 => (x[0], x[1]) = (r.between(0.1, 3.0), r.between(0.0, 0.79)),
+        Formula::EllipsoidSubsonicPressureDrag => {
+            (x[0], x[1]) = (r.between(0.1, 3.0), r.between(0.0, 0.79))
+        }
         _ => x[0] = r.between(0.0, 3.0),
     }
     x
 }
 
-type Formula = unsafe extern "C" fn(u32, f64, f64, f64, f64, f64, *mut u64) -> u32;
+type Numbered = unsafe extern "C" fn(u32, f64, f64, f64, f64, f64, *mut u64) -> u32;
 
-fn formula_pass(f: Formula, which: u32, inputs: &[[f64; 5]]) -> u64 {
+fn formula_pass(f: Numbered, which: u32, inputs: &[[f64; 5]]) -> u64 {
     let mut sum = 0u64;
     for &[a, b, c, d, e] in inputs {
         let mut bits = 0;
@@ -148,17 +150,19 @@ fn formula_pass(f: Formula, which: u32, inputs: &[[f64; 5]]) -> u64 {
 }
 
 fn formulas(random: &mut Random) {
-    let (port, original) =
-        black_box((raw::cobalnis_formula as Formula, theirs::formula as Formula));
-    for (which, name) in FORMULAS.iter().enumerate() {
-        let inputs: Vec<_> = (0..INPUTS).map(|_| plausible(which, random)).collect();
-        let which = which as u32;
+    let (port, original) = black_box((
+        raw::cobalnis_formula as Numbered,
+        theirs::formula as Numbered,
+    ));
+    for formula in builds::formulas() {
+        let inputs: Vec<_> = (0..INPUTS).map(|_| plausible(formula, random)).collect();
+        let which = formula.number();
         let times = measure(
             INPUTS,
             &mut || formula_pass(port, which, &inputs),
             &mut || formula_pass(original, which, &inputs),
         );
-        row(&format!("`{name}`"), times);
+        row(&format!("`{}`", formula.name()), times);
     }
 }
 

@@ -1,5 +1,6 @@
-//! Measures how far document 01's fixed steps lie from this machine's own ln, exp, powf and sin
-//! (Rust's std), over the ranges that the formulas use, and prints a table in markdown.
+//! Measures how far the fixed steps (docs/REFERENCE.md, Fixed steps) lie from this machine's own
+//! ln, exp, powf and sin (Rust's std), over the ranges that the formulas use, and prints a table in
+//! markdown.
 //!
 //!     cargo run --release --offline --bin ulps
 //!

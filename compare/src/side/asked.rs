@@ -1,6 +1,8 @@
 //! What arguments are asked at: the numbers where a test or a branch changes with their
 //! neighbours, the tables' numbers with theirs, odd floats, and plausible ones.
 
+use cobalnis::Formula;
+
 use crate::fixed::{self, LN_2};
 use crate::inputs::{around, specials, Random, MACHS};
 use crate::original_fixed::{critical_reynolds, StoneyNose};
@@ -196,45 +198,45 @@ fn powers(factors: &[f64]) -> Vec<f64> {
     all.filter(|x| x.is_finite()).collect()
 }
 
-/// The arguments of one of the 20 formulas.
-pub fn formula(which: usize) -> Vec<Argument> {
+/// The arguments of a formula that has any.
+pub fn formula(which: Formula) -> Vec<Argument> {
     let exponent = || {
         let edges = [0.2, -1.039, 0.58, 0.5, 2.0, 3.0, 710.0, -746.0];
         Argument::new(&edges, |r| r.between(-2.0, 5.0))
     };
     match which {
-        0 => vec![Argument::new(&powers(&[1.0, 2.25]), |r| {
+        Formula::Sqrt => vec![Argument::new(&powers(&[1.0, 2.25]), |r| {
             r.scaled(1e-9, 1e9)
         })],
-        1 => {
+        Formula::Ln => {
             let edges = powers(&[1.0, std::f64::consts::SQRT_2]);
             vec![Argument::new(&edges, |r| r.scaled(1e-9, 1e10))]
         }
-        2 => {
+        Formula::Exp => {
             let mut edges = vec![710.0, -746.0, 709.782712893384, -708.3964185322641, -745.13];
             edges.extend((-2156..=2050).map(|half| f64::from(half) / 2.0 * LN_2));
             vec![Argument::new(&edges, |r| r.between(-60.0, 60.0))]
         }
-        3 => {
+        Formula::Powf => {
             let x = Argument::new(&[1e-9, 0.85, 1.0, 2.0, 1e300], |r| r.scaled(1e-9, 1e2));
             vec![x, exponent()]
         }
-        4 => vec![Argument::new(
+        Formula::Sin => vec![Argument::new(
             &[HALF_PI, 2.0 * HALF_PI, 0.5, 10.0, 1e17, 1e154],
             |r| r.between(0.0, HALF_PI),
         )],
-        6 => vec![roughness()],
-        7 => vec![reynolds(), roughness()],
-        8 => vec![reynolds(), roughness(), mach()],
-        9 => vec![fineness()],
-        13 => vec![angle()],
-        14 => vec![length(), length(), length()],
-        15 => vec![drag(), drag(), slope(), mach(), mach()],
-        16 => vec![Argument::new(&[0.25, 0.5, 0.75, 1.0], |r| {
+        Formula::CriticalReynolds => vec![roughness()],
+        Formula::IncompressibleSkinFriction => vec![reynolds(), roughness()],
+        Formula::SkinFrictionCoefficient => vec![reynolds(), roughness(), mach()],
+        Formula::BodyFrictionFormFactor => vec![fineness()],
+        Formula::JointPressureDragCoefficient => vec![angle()],
+        Formula::BoattailFactor => vec![length(), length(), length()],
+        Formula::SubsonicPressureDragCoefficient => vec![drag(), drag(), slope(), mach(), mach()],
+        Formula::OgivePressureDragFactor => vec![Argument::new(&[0.25, 0.5, 0.75, 1.0], |r| {
             r.between(0.0, 1.0)
         })],
-        17 => vec![drag(), drag(), fineness()],
-        18 => vec![fineness(), mach()],
+        Formula::FinenessScaledPressureDrag => vec![drag(), drag(), fineness()],
+        Formula::EllipsoidSubsonicPressureDrag => vec![fineness(), mach()],
         _ => vec![mach()],
     }
 }
@@ -244,20 +246,22 @@ fn slope() -> Argument {
 }
 
 /// Inputs where arguments meet: a test between two of them is on its edge.
-pub fn related(which: usize) -> Option<fn(&mut Random) -> [f64; 5]> {
+pub fn related(which: Formula) -> Option<fn(&mut Random) -> [f64; 5]> {
     Some(match which {
-        0 => near_a_square,
-        3 => near_exps_ends,
-        7 | 8 => near_the_critical_reynolds,
-        14 => near_a_boattails_ends,
-        15 => near_the_lower_bound,
-        17 => |r| {
+        Formula::Sqrt => near_a_square,
+        Formula::Powf => near_exps_ends,
+        Formula::IncompressibleSkinFriction | Formula::SkinFrictionCoefficient => {
+            near_the_critical_reynolds
+        }
+        Formula::BoattailFactor => near_a_boattails_ends,
+        Formula::SubsonicPressureDragCoefficient => near_the_lower_bound,
+        Formula::FinenessScaledPressureDrag => |r| {
             let c0 = r.between(0.0, 1.6);
             let c3 = near(r, c0);
             let fineness = r.pick(&[0.0, 3.0, 1.0, 0.5]);
             [c3, c0, near(r, fineness), 0.0, 0.0]
         },
-        18 => |r| {
+        Formula::EllipsoidSubsonicPressureDrag => |r| {
             let fineness = r.pick(&[0.5, 7.0 / 12.0, 1.0]);
             let mach = r.between(0.0, 0.9);
             [near(r, fineness), mach, 0.0, 0.0, 0.0]

@@ -1,14 +1,11 @@
 //! Random streams of cards against the model: what is printed, and cards read one at a time.
 
-use cobalnis::words::{self, PART_WORDS, SHEET_WORDS};
+use cobalnis::words::{self, LONGEST_TEXT, PART_WORDS, SHEET_WORDS};
 
 use super::tally::Row;
 use crate::cards::printed;
 use crate::mirror;
 use crate::streams::Streams;
-
-/// Room for the longest text.
-const ROOM: usize = 11033;
 
 /// What was there before a card is read.
 const BEFORE: u64 = 0x0123_4567_89ab_cdef;
@@ -25,7 +22,7 @@ pub fn cards(count: u64, seed: u64) -> Vec<Row> {
         Row::new("cards: read_settings"),
         Row::new("cards: read_part"),
     ];
-    let mut out = vec![0; ROOM];
+    let mut out = vec![0; LONGEST_TEXT];
     for _ in 0..count {
         let (stream, _) = streams.next_stream();
         print(&stream, &mut out, &mut rows[0]);

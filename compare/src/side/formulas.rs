@@ -1,10 +1,11 @@
-//! The formulas of document 01, the tests of a dimension, the shapes' test and Stoney's tables.
+//! The formulas (docs/REFERENCE.md, Friction and base, Nose formulas), the tests of a dimension,
+//! the shapes' test and Stoney's tables.
 
-use cobalnis::words;
+use cobalnis::{words, Formula};
 
 use super::asked::{self, each_input, Argument};
 use super::tally::Row;
-use crate::builds::{plain, FORMULAS};
+use crate::builds::{self, plain};
 use crate::inputs::{Random, NANS};
 use crate::mirror;
 use crate::original_fixed::StoneyNose;
@@ -25,14 +26,14 @@ pub fn written(arguments: &[u64], port: &[u64], original: &[u64]) -> String {
 }
 
 pub fn formulas(count: u64, random: &mut Random) -> Vec<Row> {
-    let all = FORMULAS.iter().enumerate();
-    all.map(|(which, name)| formula(which, name, count, random))
+    builds::formulas()
+        .map(|which| formula(which, count, random))
         .collect()
 }
 
-fn formula(which: usize, name: &str, count: u64, random: &mut Random) -> Row {
-    let mut row = Row::new(name);
-    let number = which as u32;
+fn formula(which: Formula, count: u64, random: &mut Random) -> Row {
+    let mut row = Row::new(which.name());
+    let number = which.number();
     let arguments = asked::formula(which);
     let mut ask = |random: &mut Random, mut x: [f64; 5], plausible: bool| {
         // Arguments that a formula has no use for are anything.
@@ -45,8 +46,7 @@ fn formula(which: usize, name: &str, count: u64, random: &mut Random) -> Row {
             let (p, o) = ([port.0.into(), port.1], [theirs.0.into(), theirs.1]);
             written(&x.map(f64::to_bits), &p, &o)
         });
-        let plain = plain::formula(number, x).expect("a formula's number");
-        row.measure(plausible, port.0, port.1, plain);
+        row.measure(plausible, port.0, port.1, plain::formula(which, x));
     };
     let related = asked::related(which);
     match &arguments[..] {
@@ -92,7 +92,7 @@ pub fn unknown_formulas(random: &mut Random) -> Row {
     let mut row = Row::new("numbers that name no formula");
     for i in 0..1000 {
         let number = if i < 500 {
-            22 + i
+            Formula::ALL.len() as u32 + i
         } else {
             random.bits() as u32 | 32
         };
@@ -248,8 +248,11 @@ fn expected(nose: u32, mach: f64) -> (u32, [u64; 3]) {
 /// The constants of `NoseShape`, by their parameters; the wrapper has them as constants too.
 pub fn shape_constants() -> Row {
     let mut row = Row::new("NoseShape::VON_KARMAN, LV_HAACK");
-    let wrapped = [cobalnis::Shape::VON_KARMAN, cobalnis::Shape::LV_HAACK];
-    for (number, shape) in (20..).zip(wrapped) {
+    for (formula, shape) in [
+        (Formula::VonKarman, cobalnis::Shape::VON_KARMAN),
+        (Formula::LvHaack, cobalnis::Shape::LV_HAACK),
+    ] {
+        let number = formula.number();
         let (port, theirs) = (
             words::formula(number, [0.0; 5]),
             mirror::formula(number, [0.0; 5]),

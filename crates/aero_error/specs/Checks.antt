@@ -4,7 +4,7 @@ use mathlib.Core.Bool.{Bool, true, false, _&&_, _||_}
 use Prim.Native.Nat.{ℕ, zero, suc}
 use lib.Ieee.{Float}
 use lib.Ieee.Scale.{finite}
-use Rattle.elementary.specs.Arithmetic.{_≺_, _≼_, _≈_, bits}
+use Rattle.elementary.specs.Arithmetic.{_≺_, _≈_, bits}
 use Rattle.aero_error.specs.declared.Quantity.{Quantity}
 use Rattle.aero_error.specs.declared.AeroError.{AeroError}
 use Rattle.aero_error.specs.declared.AeroError.the-variants.{Domain, Broken}
@@ -24,10 +24,6 @@ required false what value = Failed (Domain what value)
 unfoldable pub dimension : Float → Bool → Bool
 dimension value allow-zero = finite value && (bits 0 ≺ value || (allow-zero && value ≈ bits 0))
 
--- `(low..=high).contains(&x)`
-unfoldable pub between : Float → Float → Float → Bool
-between low x high = low ≼ x && x ≼ high
-
 -- one test after another: the first that fails is the answer
 abbrev pub _then_ : Check → Check → Check
 Passed then next = next
@@ -43,12 +39,19 @@ unfoldable pub upTo : ℕ → (ℕ → Check) → Check
 upTo zero test = Passed
 upTo (suc n) test = upTo n test then test n
 
--- `check?; answer`
-abbrev pub _and-then_ : Check → Coefficient → Coefficient
-Passed and-then answer = answer
-Failed refusal and-then answer = Refused refusal
+-- Rust's `?` for an answer of any type that has a case for refusals: `check?; answer`
+abbrev pub after : {A : Type 0} → (AeroError → A) → Check → A → A
+after refused Passed answer = answer
+after refused (Failed refusal) answer = refused refusal
 
 -- `let value = first?; rest(value)`
+abbrev pub withValue : {A : Type 0} → (AeroError → A) → Coefficient → (Float → A) → A
+withValue refused (Value value) rest = rest value
+withValue refused (Refused refusal) rest = refused refusal
+
+-- both, where the answer is a coefficient
+abbrev pub _and-then_ : Check → Coefficient → Coefficient
+check and-then answer = after Refused check answer
+
 abbrev pub _for-value_ : Coefficient → (Float → Coefficient) → Coefficient
-Value value for-value rest = rest value
-Refused refusal for-value rest = Refused refusal
+first for-value rest = withValue Refused first rest

@@ -1,4 +1,4 @@
--- Document 01's "Refusal numbers with inputs": the number of each refusal, and the code and the value that refusal 1 adds.
+-- Refusals (docs/REFERENCE.md, Refusals and Codes): the number of each refusal, and the code and the value that refusal 1 adds.
 -- Each case of the enums is named here once; later promises speak of a refusal through these definitions.
 use Prim.Native.Nat.{ℕ, _<_}
 use native.Mathlib.Omega.{arith}
@@ -58,9 +58,9 @@ abbrev pub codeOf : AeroError → ℕ
 codeOf (Domain what value) = codeOfQuantity what
 codeOf (Broken rule) = 0
 
-abbrev pub valueOf : AeroError → Float
-valueOf (Domain what value) = value
-valueOf (Broken rule) = bits 0
+abbrev pub refusedValue : AeroError → Float
+refusedValue (Domain what value) = value
+refusedValue (Broken rule) = bits 0
 
 -- no number has more than two digits
 rule-small : (rule : Rule) → numberOfRule rule < 100

@@ -1,11 +1,12 @@
-// The refusals of every layer, with document 01's numbers for them, the tests that give refusal 1 (error.rs), and tests one after
-// another. A test answers `Check`, a formula `Coefficient`; both carry the refusal itself, so that a caller hands it on unread.
+// The refusals of every layer, with their numbers (docs/REFERENCE.md, Refusals), the tests that give refusal 1 (error.rs), and tests
+// one after another. A test answers `Check`, a formula `Coefficient`; both carry the refusal itself, so that a caller hands it on
+// unread.
 ghost use mathlib.Core.Path.{_≡_};
-ghost use lib.Ieee.Scale.{finite};
-ghost use Rattle.aero_error.specs.Refusals.{codeOfQuantity, numberOfRule, numberOf, codeOf, valueOf};
-ghost use Rattle.aero_error.specs.Checks.{required, dimension, between, _then_, unless};
+ghost use Rattle.aero_error.specs.Refusals.{codeOfQuantity, numberOfRule, numberOf, codeOf, refusedValue};
+ghost use Rattle.aero_error.specs.Checks.{required, dimension, _then_, unless, _and-then_};
+ghost use Rattle.aero_error.specs.declared.Coefficient.the-variants.{Value};
 
-// What a refused value is: the Rust's `what`, in the order of document 01's codes 1 to 22.
+// What a refused value is: the Rust's `what`, in the order of its codes 1 to 22 (docs/REFERENCE.md, Codes).
 pub enum Quantity {
     Mach,
     Fineness,
@@ -64,7 +65,7 @@ pub enum Coefficient {
 }
 
 impl Quantity {
-    // Document 01's code, 1 to 22.
+    // Its code, 1 to 22 (docs/REFERENCE.md, Codes).
     pub fn code(self) -> u8
         ensures { λ r. ⌜ r ≡ codeOfQuantity self ⌝ }
     {
@@ -138,27 +139,13 @@ impl AeroError {
 
     // The value that refusal 1 adds, and +0 with any other.
     pub fn value(self) -> f64
-        ensures { λ r. ⌜ r ≡ valueOf self ⌝ }
+        ensures { λ r. ⌜ r ≡ refusedValue self ⌝ }
     {
         match self {
             AeroError::Domain { what: _, value } => value,
             AeroError::Broken(_) => 0.0,
         }
     }
-}
-
-// Neither a NaN nor an infinity: only those give a NaN when they are taken from themselves.
-pub fn is_finite(x: f64) -> bool
-    ensures { λ r. ⌜ r ≡ finite x ⌝ }
-{
-    x - x == 0.0
-}
-
-// From low to high, both ends included; false at a NaN.
-pub fn is_between(low: f64, x: f64, high: f64) -> bool
-    ensures { λ r. ⌜ r ≡ between low x high ⌝ }
-{
-    low <= x && x <= high
 }
 
 // A test, then refusal 1 with this quantity and value.
@@ -193,11 +180,22 @@ pub fn unless(broken: bool, rule: Rule) -> Check
     }
 }
 
+// A value once its tests have passed, or their refusal. The value is worked out before the answer of the tests is looked at, so what
+// takes long stays behind an `if`.
+pub fn gated(check: Check, value: f64) -> Coefficient
+    ensures { λ r. ⌜ r ≡ (check and-then Value value) ⌝ }
+{
+    match check {
+        Check::Passed => Coefficient::Value(value),
+        Check::Failed(refusal) => Coefficient::Refused(refusal),
+    }
+}
+
 // Finite and positive, or zero of either sign where zero is allowed.
 fn is_dimension(value: f64, allow_zero: bool) -> bool
     ensures { λ r. ⌜ r ≡ dimension value «allow_zero» ⌝ }
 {
-    is_finite(value) && (value > 0.0 || (allow_zero && value == 0.0))
+    elementary::is_finite(value) && (value > 0.0 || (allow_zero && value == 0.0))
 }
 
 pub fn check_dimension(what: Quantity, value: f64, allow_zero: bool) -> Check

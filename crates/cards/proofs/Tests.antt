@@ -1,4 +1,4 @@
--- A law on tests of numbers. Assumes nothing.
+-- A law on tests of numbers.
 use mathlib.Core.Path.{_≡_, refl, sym}
 use mathlib.Core.Bool.{Bool, true, false}
 use Prim.Native.Nat.{ℕ, _+_, _-_, _≤_}

@@ -1,5 +1,6 @@
--- The two cards (document 01, "Cards"), read from a list of bytes at a position, in document 01's order: "Card bytes: left to right, bits first, settings'
--- missing bits next, the parameter bit once the shape is read, 7 at the count byte". A card answers its content and the position after it, or its refusal.
+-- The two cards (docs/REFERENCE.md, Cards), read from a list of bytes at a position, in the order given there: "Card bytes: left to right, bits first,
+-- settings' missing bits next, the parameter bit once the shape is read, 7 at the count byte". A card answers its content and the position after it, or its
+-- refusal.
 use mathlib.Core.Bool.{Bool, true, false, cond, not}
 use mathlib.Core.List.{List, _++_}
 use Prim.Native.Nat.{ℕ, _+_, _-_, _*_}
@@ -13,13 +14,13 @@ use Rattle.aero_error.specs.declared.Rule.the-variants.{CardEnds, ReservedBit, 
 use Rattle.shapes.specs.declared.NoseShape.{NoseShape}
 use Rattle.shapes.specs.Numbers.{shapeOf}
 use Rattle.aero_error.specs.declared.Check.the-variants.{Passed, Failed}
-use Rattle.drag_sheet.specs.Layout.{most-columns}
+use Rattle.sheet_data.specs.Layout.{most-columns}
 use Rattle.cards.specs.declared.ShapeRead.{ShapeRead}
 use Rattle.cards.specs.declared.ShapeRead.the-variants.{Shape, Refused as NoShape}
 use Rattle.cards.specs.declared.PartRead.{PartRead}
 use Rattle.cards.specs.declared.PartRead.the-variants.{Read, Refused as NoPart}
 use Rattle.cards.specs.declared.SettingsRead.{SettingsRead}
-use Rattle.cards.specs.Fields.{bit, has, byteAt, numberAt, pairAt, numbersAt, onByte, onNumber, onPair}
+use Rattle.cards.specs.Fields.{number-bytes, pair-bytes, bit, has, byteAt, numberAt, pairAt, numbersAt, onByte, onNumber, onPair}
 
 -- ---- part cards: bit 0 shape byte, 1 shape parameter, 2 L, 3 d, 4 joint angle, 5 w
 
@@ -27,15 +28,15 @@ use Rattle.cards.specs.Fields.{bit, has, byteAt, numberAt, pairAt, numbe
 abbrev pub takesParameter : ℕ → Bool
 takesParameter n = cond (eqb n 0) false (cond (eqb n 2) false true)
 
--- whether the parameter's bit stands where it must, and doesn't where it mustn't
+-- whether the parameter is present where it must be, and isn't where it mustn't
 abbrev pub parameterRight : Bool → ℕ → Bool
-parameterRight stands n = cond stands (takesParameter n) (not (takesParameter n))
+parameterRight present n = cond present (takesParameter n) (not (takesParameter n))
 
 -- the parameter of shape n, judged and read
 unfoldable pub parameterAt : Bool → ℕ → List ℕ → ℕ → ShapeRead
-parameterAt stands n s at =
-    cond (parameterRight stands n)
-    (onNumber (numberAt stands s at) NoShape λ x next. Shape (shapeOf n x) next)
+parameterAt present n s at =
+    cond (parameterRight present n)
+    (onNumber (numberAt present s at) NoShape λ x next. Shape (shapeOf n x) next)
     (NoShape (Broken FieldMissing))
 
 -- the shape byte, 5 where it is above 5, then the parameter
@@ -83,16 +84,16 @@ noSettings e = record {
   next = 0;
 }
 
--- n numbers in an array for 32
+-- n numbers in an array for as many as there may be
 abbrev pub slots : ℕ → List Float → List Float
 slots n xs = xs ++ replicate (most-columns - n) 0·0
 
--- n columns, once their number is read: 7 above 32, then 4 where the pairs don't stand
+-- n columns, once their number is read: 7 where there are too many, then 4 where the bytes end before the pairs do
 unfoldable pub columnsAt : Float → Float → Float → ℕ → List ℕ → ℕ → SettingsRead
 unfolding numbersAt
 columnsAt D roughness B n s at =
     cond (ltb most-columns n) (noSettings (Broken TooManyColumns))
-    (cond (has s at (16 * n))
+    (cond (has s at (pair-bytes * n))
     (record {
       outcome = Passed;
       settings = record {
@@ -101,9 +102,9 @@ columnsAt D roughness B n s at =
         «body_fineness» = B;
         count = n;
         machs = slots n (numbersAt n s at);
-        reynolds = slots n (numbersAt n s (at + 8));
+        reynolds = slots n (numbersAt n s (at + number-bytes));
       };
-      next = at + 16 * n;
+      next = at + pair-bytes * n;
     })
     (noSettings (Broken CardEnds)))
 
@@ -128,3 +129,13 @@ settingsFields map s at =
 unfoldable pub settingsAt : List ℕ → ℕ → SettingsRead
 unfolding settingsFields
 settingsAt s at = onByte (byteAt true s at) noSettings λ map next. settingsFields map s next
+
+-- ---- the most bytes of a card
+
+-- bit map, D, roughness, B, the count and the columns
+abbrev pub settings-bytes : ℕ
+settings-bytes = 1 + 3 * number-bytes + 1 + most-columns * pair-bytes
+
+-- bit map, shape, parameter, L, d, joint angle and w
+abbrev pub part-bytes : ℕ
+part-bytes = 1 + 1 + 5 * number-bytes

@@ -1,5 +1,5 @@
--- The fields of a card (document 01, "Cards"), read from a list of bytes at a position: "a bit map byte (bit 0 lowest), then only the fields whose bit stands,
--- in bit order, floats as 8 bytes, low byte first". A field answers its value and the position after it, or refusal 4 where the bytes end inside it.
+-- The fields of a card (docs/REFERENCE.md, Cards), read from a list of bytes at a position: "a bit map byte (bit 0 lowest), then only the fields whose bit
+-- stands, in bit order, floats as 8 bytes, low byte first". A field answers its value and the position after it, or refusal 4 where the bytes end inside it.
 use mathlib.Core.Bool.{Bool, true, false, cond}
 use mathlib.Core.List.{List, [], _∷_}
 use Prim.Native.Nat.{ℕ, zero, suc, _+_, _*_, _/_, _%_, _^_}
@@ -18,11 +18,18 @@ use Rattle.cards.specs.declared.NumberRead.the-variants.{Number, Refused
 use Rattle.cards.specs.declared.PairRead.{PairRead}
 use Rattle.cards.specs.declared.PairRead.the-variants.{Pair, Refused as NoPair}
 
+-- the bytes of a float, and of a column's two, M and R
+abbrev pub number-bytes : ℕ
+number-bytes = 8
+
+abbrev pub pair-bytes : ℕ
+pair-bytes = 2 * number-bytes
+
 -- whether a bit of the bit map stands, bit 0 the lowest
 abbrev pub bit : ℕ → ℕ → Bool
 bit k map = eqb (map / 2 ^ k % 2) 1
 
--- n bytes stand from a position on
+-- there are n bytes from a position on
 abbrev pub has : List ℕ → ℕ → ℕ → Bool
 has s at n = leb (at + n) (length s)
 
@@ -33,15 +40,15 @@ fourBytes s at = getD s at 0 + 0x100 * getD s (at + 1) 0 + 0x1_0000 * getD s (at
 unfoldable pub eightBytes : List ℕ → ℕ → ℕ
 eightBytes s at = fourBytes s at + 0x1_0000_0000 * fourBytes s (at + 4)
 
--- a byte field; one whose bit doesn't stand is 0 ("An absent shape is 0 .. absent columns none")
+-- a byte field; one that isn't present is 0 ("An absent shape is 0 .. absent columns none")
 abbrev pub byteAt : Bool → List ℕ → ℕ → ByteRead
 byteAt false s at = Byte 0 at
 byteAt true s at = cond (has s at 1) (Byte (getD s at 0) (at + 1)) (NoByte (Broken CardEnds))
 
--- a float field; one whose bit doesn't stand is +0 ("an absent number +0")
+-- a float field; one that isn't present is +0 ("an absent number +0")
 abbrev pub numberAt : Bool → List ℕ → ℕ → NumberRead
 numberAt false s at = Number 0·0 at
-numberAt true s at = cond (has s at 8) (Number (bits (eightBytes s at)) (at + 8)) (NoNumber (Broken CardEnds))
+numberAt true s at = cond (has s at number-bytes) (Number (bits (eightBytes s at)) (at + number-bytes)) (NoNumber (Broken CardEnds))
 
 -- what was read goes on to what follows it, and a refusal ends the card
 abbrev pub onByte : {A : Type 0} → ByteRead → (AeroError → A) → (ℕ → ℕ → A) → A
@@ -63,8 +70,8 @@ pairAt first second s at =
     onNumber (numberAt second s next) NoPair λ y last.
     Pair x y last
 
--- n floats, one every 16 bytes: the Mach or the Reynolds numbers of n pairs M, R
+-- the Mach or the Reynolds numbers of n pairs M, R
 unfoldable pub numbersAt : ℕ → List ℕ → ℕ → List Float
 unfolding eightBytes
 numbersAt zero s at = []
-numbersAt (suc n) s at = bits (eightBytes s at) ∷ numbersAt n s (at + 16)
+numbersAt (suc n) s at = bits (eightBytes s at) ∷ numbersAt n s (at + pair-bytes)

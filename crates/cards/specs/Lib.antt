@@ -1,4 +1,3 @@
--- The definitions of the crate `cards`: what the bytes of a card say, and what a whole stream of cards comes to.
+-- The definitions of the crate `cards`: what the bytes of a card say.
 pub mod Fields
 pub mod Cards
-pub mod Run

@@ -1,23 +1,31 @@
-// Cards (document 01, "Cards"): the bytes of a settings card and of a part card, read from a
+// Cards (docs/REFERENCE.md, Cards): the bytes of a settings card and of a part card, read from a
 // position of lent bytes. Each function answers what its definition gives, whatever the bytes are.
 ghost use mathlib.Core.Path.{_≡_};
 ghost use mathlib.Core.List.{_++_};
 ghost use Prim.Native.Nat.{_+_, _-_, _*_, _≤_, _<_};
 ghost use lib.ListN.{length};
 ghost use Rattle.elementary.specs.Arithmetic.{bits};
-ghost use Rattle.cards.specs.Fields.{has, fourBytes, eightBytes, byteAt, numberAt, pairAt, numbersAt};
+ghost use Rattle.sheet_data.specs.Layout.{most-columns};
+ghost use Rattle.cards.specs.Fields.{number-bytes, pair-bytes, has, fourBytes, eightBytes, byteAt, numberAt, pairAt, numbersAt};
 ghost use Rattle.cards.specs.Cards.{takesParameter, parameterRight, parameterAt, shapeAt, restAt, partFields, partAt, noSettings, slots, columnsAt, finenessAt, settingsFields, settingsAt};
-ghost use Rattle.aero_error.specs.declared.Check.the-variants.{Passed};
-ghost use Rattle.drag_sheet.specs.Calls.{opened, emptySlots};
-ghost use Rattle.cards.specs.Run.{runStopped, Stopped, Sized, allPartCards, streamOf};
 use aero_error::AeroError;
 use aero_error::Check;
 use aero_error::Rule;
-use drag_sheet::Design;
-use drag_sheet::Part;
-use drag_sheet::Settings;
-use drag_sheet::Sheet;
 use shapes::NoseShape;
+use sheet_data::Part;
+use sheet_data::Settings;
+use sheet_data::layout::COLUMNS;
+
+// The bytes of a float field, and of a column's two.
+const NUMBER_BYTES: usize = 8;
+
+const PAIR_BYTES: usize = 2 * NUMBER_BYTES;
+
+// The most bytes of a settings card: bit map, D, the roughness, B, the count and the columns.
+pub const SETTINGS_BYTES: usize = 1 + 3 * NUMBER_BYTES + 1 + COLUMNS * PAIR_BYTES;
+
+// The most bytes of a part card: bit map, shape, parameter, L, d, joint angle and w.
+pub const PART_BYTES: usize = 1 + 1 + 5 * NUMBER_BYTES;
 
 // A byte field, with the position after it.
 pub enum ByteRead {
@@ -60,14 +68,6 @@ pub struct SettingsRead {
     pub next: usize,
 }
 
-// A run's answer: what it came to, the card it stopped at, counted from 0, and the sheet that stands
-// then. An accepted run stops past its last card.
-pub struct Run {
-    pub outcome: Check,
-    pub card: usize,
-    pub sheet: Sheet,
-}
-
 // ---- fields
 
 fn wide(b: u8) -> u64
@@ -76,7 +76,7 @@ fn wide(b: u8) -> u64
     b as u64
 }
 
-// Whether n bytes stand from a position on.
+// Whether there are n bytes from a position on.
 fn has(s: &[u8], at: usize, n: usize) -> bool
     ensures { λ r. ⌜ r ≡ has (now (s .entry)) at n ⌝ }
 {
@@ -99,7 +99,7 @@ fn four_bytes(s: &[u8], at: usize) -> u64
 
 // A float: eight bytes, low byte first.
 fn number_at(s: &[u8], at: usize) -> f64
-    requires { ⌜ at + 8 ≤ length (now s) ⌝ }
+    requires { ⌜ at + number-bytes ≤ length (now s) ⌝ }
     ensures { λ r. ⌜ r ≡ bits (eightBytes (now (s .entry)) at) ⌝ }
 {
     let low = four_bytes(s, at);
@@ -107,11 +107,11 @@ fn number_at(s: &[u8], at: usize) -> f64
     elementary::from_bits(low + 0x1_0000_0000 * high)
 }
 
-// A byte field; 0 where its bit does not stand.
-fn read_byte(stands: bool, s: &[u8], at: usize) -> ByteRead
-    ensures { λ r. ⌜ r ≡ byteAt stands (now (s .entry)) at ⌝ }
+// A byte field; 0 where it is not present.
+fn read_byte(present: bool, s: &[u8], at: usize) -> ByteRead
+    ensures { λ r. ⌜ r ≡ byteAt present (now (s .entry)) at ⌝ }
 {
-    if stands {
+    if present {
         if has(s, at, 1) {
             return ByteRead::Byte {
                 value: s[at],
@@ -123,15 +123,15 @@ fn read_byte(stands: bool, s: &[u8], at: usize) -> ByteRead
     ByteRead::Byte { value: 0, next: at }
 }
 
-// A float field; +0 where its bit does not stand.
-fn read_number(stands: bool, s: &[u8], at: usize) -> NumberRead
-    ensures { λ r. ⌜ r ≡ numberAt stands (now (s .entry)) at ⌝ }
+// A float field; +0 where it is not present.
+fn read_number(present: bool, s: &[u8], at: usize) -> NumberRead
+    ensures { λ r. ⌜ r ≡ numberAt present (now (s .entry)) at ⌝ }
 {
-    if stands {
-        if has(s, at, 8) {
+    if present {
+        if has(s, at, NUMBER_BYTES) {
             return NumberRead::Number {
                 value: number_at(s, at),
-                next: at + 8,
+                next: at + NUMBER_BYTES,
             };
         }
         return NumberRead::Refused(AeroError::Broken(Rule::CardEnds));
@@ -162,15 +162,15 @@ fn read_pair(first: bool, second: bool, s: &[u8], at: usize) -> PairRead
     }
 }
 
-// n floats, one every 16 bytes, in an array for 32.
-fn read_numbers(n: usize, s: &[u8], at: usize) -> [f64; 32]
-    requires { ⌜ (n ≤ 32) × (at + 16 * n ≤ length (now s) + 8) ⌝ }
+// One of the two floats of each of n columns, in an array for as many as there may be.
+fn read_numbers(n: usize, s: &[u8], at: usize) -> [f64; COLUMNS]
+    requires { ⌜ (n ≤ most-columns) × (at + pair-bytes * n ≤ length (now s) + number-bytes) ⌝ }
     ensures { λ r. ⌜ r ≡ slots n (numbersAt n (now (s .entry)) at) ⌝ }
 {
-    let mut out = [0.0; 32];
+    let mut out = [0.0; COLUMNS];
     let mut i = 0usize;
     while i < n {
-        out[i] = number_at(s, at + 16 * i);
+        out[i] = number_at(s, at + PAIR_BYTES * i);
         i += 1;
     }
     out
@@ -190,23 +190,23 @@ fn takes_parameter(number: u8) -> bool
     true
 }
 
-// Whether the parameter's bit stands where it must, and does not where it must not.
-fn parameter_right(stands: bool, number: u8) -> bool
-    ensures { λ r. ⌜ r ≡ parameterRight stands number ⌝ }
+// Whether the parameter's bit present where it must, and does not where it must not.
+fn parameter_right(present: bool, number: u8) -> bool
+    ensures { λ r. ⌜ r ≡ parameterRight present number ⌝ }
 {
     let takes = takes_parameter(number);
-    if stands {
+    if present {
         return takes;
     }
     !takes
 }
 
 // The parameter of a shape, judged and read.
-fn read_parameter(stands: bool, number: u8, s: &[u8], at: usize) -> ShapeRead
-    ensures { λ r. ⌜ r ≡ parameterAt stands number (now (s .entry)) at ⌝ }
+fn read_parameter(present: bool, number: u8, s: &[u8], at: usize) -> ShapeRead
+    ensures { λ r. ⌜ r ≡ parameterAt present number (now (s .entry)) at ⌝ }
 {
-    if parameter_right(stands, number) {
-        match read_number(stands, s, at) {
+    if parameter_right(present, number) {
+        match read_number(present, s, at) {
             NumberRead::Refused(e) => ShapeRead::Refused(e),
             NumberRead::Number { value, next } => ShapeRead::Shape {
                 shape: NoseShape::of_number(wide(number), value),
@@ -299,8 +299,8 @@ fn no_settings(e: AeroError) -> SettingsRead
             roughness: 0.0,
             body_fineness: 0.0,
             count: 0,
-            machs: [0.0; 32],
-            reynolds: [0.0; 32],
+            machs: [0.0; COLUMNS],
+            reynolds: [0.0; COLUMNS],
         },
         next: 0,
     }
@@ -311,12 +311,12 @@ fn read_columns(d: f64, roughness: f64, b: f64, n: u8, s: &[u8], at: usize) -> S
     ensures { λ r. ⌜ r ≡ columnsAt d roughness b n (now (s .entry)) at ⌝ }
 {
     let count = n as usize;
-    if 32 < count {
+    if COLUMNS < count {
         return no_settings(AeroError::Broken(Rule::TooManyColumns));
     }
-    if has(s, at, 16 * count) {
+    if has(s, at, PAIR_BYTES * count) {
         let machs = read_numbers(count, s, at);
-        let reynolds = read_numbers(count, s, at + 8);
+        let reynolds = read_numbers(count, s, at + NUMBER_BYTES);
         return SettingsRead {
             outcome: Check::Passed,
             settings: Settings {
@@ -327,7 +327,7 @@ fn read_columns(d: f64, roughness: f64, b: f64, n: u8, s: &[u8], at: usize) -> S
                 machs,
                 reynolds,
             },
-            next: at + 16 * count,
+            next: at + PAIR_BYTES * count,
         };
     }
     no_settings(AeroError::Broken(Rule::CardEnds))
@@ -380,96 +380,4 @@ pub fn read_settings(s: &[u8], at: usize) -> SettingsRead
         ByteRead::Refused(e) => no_settings(e),
         ByteRead::Byte { value, next } => read_settings_fields(value, s, next),
     }
-}
-
-// ---- the run over a whole stream
-
-// Stopped at a part card, or past the last one.
-fn stopped(outcome: Check, sheet: Sheet) -> Run
-    requires { ⌜ sheet .design .count ≤ 16 ⌝ }
-    ensures { λ r. ⌜ r ≡ runStopped outcome sheet ⌝ }
-{
-    let count = sheet.design.count;
-    Run {
-        outcome,
-        card: count + 1,
-        sheet,
-    }
-}
-
-// The part cards from a position on, each inserted last.
-fn run_parts(s: &[u8], start: usize, opened: Sheet, cells: &mut [f64]) -> Run
-    requires { ⌜ Sized opened (length (now cells)) ⌝ }
-    ensures { λ r. ⌜ Stopped (allPartCards (now (s .entry)) start opened (now (cells .entry))) r (now (cells .exit)) ⌝ }
-{
-    let mut at = start;
-    let mut sheet = opened;
-    while at < s.len() {
-        let count = sheet.design.count;
-        match read_part(s, at) {
-            PartRead::Refused(e) => {
-                return stopped(Check::Failed(e), sheet);
-            }
-            PartRead::Read { part, next } => {
-                let answer = drag_sheet::insert(sheet, count, part, cells);
-                let outcome = answer.outcome;
-                let after = answer.sheet;
-                if let Check::Failed(e) = outcome {
-                    return stopped(Check::Failed(e), after);
-                }
-                sheet = after;
-                at = next;
-            }
-        }
-    }
-    stopped(Check::Passed, sheet)
-}
-
-// A sheet with no parts.
-fn blank(settings: Settings) -> Sheet
-    ensures { λ r. ⌜ r ≡ opened settings emptySlots ⌝ }
-{
-    let empty = Part {
-        shape: NoseShape::Conical,
-        length: 0.0,
-        aft_diameter: 0.0,
-        joint_angle: 0.0,
-        wetted_ratio: 0.0,
-    };
-    Sheet {
-        settings,
-        design: Design {
-            count: 0,
-            parts: [empty; 16],
-        },
-    }
-}
-
-// A whole stream: one settings card, then part cards until the bytes end at a card's end, or the
-// first refusal.
-pub fn run_stream(s: &[u8], cells: &mut [f64]) -> Run
-    ensures { λ r. ⌜ Stopped (streamOf (now (s .entry)) (now (cells .entry))) r (now (cells .exit)) ⌝ }
-{
-    let card = read_settings(s, 0);
-    let settings = card.settings;
-    let next = card.next;
-    let first = card.outcome;
-    if let Check::Failed(e) = first {
-        return Run {
-            outcome: Check::Failed(e),
-            card: 0,
-            sheet: blank(settings),
-        };
-    }
-    let answer = drag_sheet::open(settings, cells);
-    let outcome = answer.outcome;
-    let sheet = answer.sheet;
-    if let Check::Failed(e) = outcome {
-        return Run {
-            outcome: Check::Failed(e),
-            card: 0,
-            sheet,
-        };
-    }
-    run_parts(s, next, sheet, cells)
 }

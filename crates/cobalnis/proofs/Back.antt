@@ -1,9 +1,8 @@
 -- A sheet's words stand for that sheet: `read-back`. So a call that is given the words which the call before it left works on the sheet which that call
 -- handed back. The one hypothesis is what the types of the code say: the arrays are as long as they are, and each number is a binary64 number.
--- Assumes nothing.
 use mathlib.Core.Path.{_≡_, refl, sym, ap, _∙_, subst}
 use mathlib.Core.List.{List, [], _∷_, _++_, append-assoc, append-nil}
-use Prim.Native.Nat.{ℕ}
+use Prim.Native.Nat.{ℕ, _-_}
 use native.Mathlib.Omega.{arith}
 use lib.Dec.{T}
 use lib.ListN.{length, getD, drop, length-append}
@@ -14,9 +13,10 @@ use Rattle.shapes.specs.declared.NoseShape.{NoseShape}
 use Rattle.shapes.specs.declared.NoseShape.the-variants.{Conical, Ogive, Elliptical, PowerSeries, ParabolicSeries, Haack}
 use Rattle.shapes.specs.Numbers.{numberOfShape, shapeOf, parameterOf}
 use Rattle.elementary.specs.Arithmetic.{bits}
-use Rattle.drag_sheet.specs.declared.Part.{Part}
-use Rattle.drag_sheet.specs.declared.Sheet.{Sheet}
-use Rattle.cobalnis.specs.Words.{every, spread, float, floatWords, partOf, partWords, sheetOf, sheetWords}
+use Rattle.sheet_data.specs.declared.Part.{Part}
+use Rattle.sheet_data.specs.declared.Sheet.{Sheet}
+use Rattle.sheet_data.specs.Layout.{most-columns, most-parts}
+use Rattle.cobalnis.specs.Words.{first-part, machs-at, part-words, settings-words, every, spread, float, floatWords, partOf, partWords, sheetOf, sheetWords}
 use Rattle.cobalnis.proofs.Turns.{spread-long}
 
 -- ---- what the types say
@@ -42,9 +42,9 @@ pub record SheetHeld (s : Sheet) : Type 0 where
   pub machs : Each Number (s .settings .machs)
   pub reynolds : Each Number (s .settings .reynolds)
   pub parts : Each PartHeld (s .design .parts)
-  pub machs-long : length (s .settings .machs) ≡ 32
-  pub reynolds-long : length (s .settings .reynolds) ≡ 32
-  pub parts-long : length (s .design .parts) ≡ 16
+  pub machs-long : length (s .settings .machs) ≡ most-columns
+  pub reynolds-long : length (s .settings .reynolds) ≡ most-columns
+  pub parts-long : length (s .design .parts) ≡ most-parts
 
 -- ---- there and back
 
@@ -76,7 +76,7 @@ shape-back (PowerSeries x) h = ap PowerSeries (number-back x h)
 shape-back (ParabolicSeries x) h = ap ParabolicSeries (number-back x h)
 shape-back (Haack x) h = ap Haack (number-back x h)
 
-part-back : (p : Part) (rest : List ℕ) → PartHeld p → (partOf (partWords p ++ rest) ≡ p) × (drop 6 (partWords p ++ rest) ≡ rest)
+part-back : (p : Part) (rest : List ℕ) → PartHeld p → (partOf (partWords p ++ rest) ≡ p) × (drop part-words (partWords p ++ rest) ≡ rest)
 part-back p rest h =
     let s = shape-back (p .shape) (h .parameter) in
     let l = number-back (p .length) (h .length) in
@@ -92,21 +92,21 @@ read-back s h =
     let r = spread floatWords (s .settings .reynolds) in
     let ps = spread partWords (s .design .parts) in
     let tail = s .design .count ∷ ps in
-    let ml : length m ≡ 32 = let e = spread-long floatWords 1 (λ x. refl) (s .settings .machs) in omega (arith, e, h .machs-long) in
-    let rl : length r ≡ 32 = let e = spread-long floatWords 1 (λ x. refl) (s .settings .reynolds) in omega (arith, e, h .reynolds-long) in
-    let mr : length (m ++ r) ≡ 64 = let e = length-append m r in omega (arith, e, ml, rl) in
+    let ml : length m ≡ most-columns = let e = spread-long floatWords 1 (λ x. refl) (s .settings .machs) in omega (arith, e, h .machs-long) in
+    let rl : length r ≡ most-columns = let e = spread-long floatWords 1 (λ x. refl) (s .settings .reynolds) in omega (arith, e, h .reynolds-long) in
+    let mr : length (m ++ r) ≡ (settings-words - machs-at) = let e = length-append m r in omega (arith, e, ml, rl) in
     let split = append-assoc m r tail in
-    let machs : every float 1 32 ((m ++ r) ++ tail) ≡ s .settings .machs =
-    ap (every float 1 32) split
+    let machs : every float 1 most-columns ((m ++ r) ++ tail) ≡ s .settings .machs =
+    ap (every float 1 most-columns) split
     ∙ subst (λ (n : ℕ). every float 1 n (m ++ (r ++ tail)) ≡ s .settings .machs) (h .machs-long) (each-back float 1 floatWords Number float-back (s .settings .machs) (r ++ tail) (h .machs)) in
-    let reynolds : every float 1 32 (drop 32 ((m ++ r) ++ tail)) ≡ s .settings .reynolds =
-    ap (λ (ws : List ℕ). every float 1 32 (drop 32 ws)) split
-    ∙ ap (every float 1 32) (drop-at m (r ++ tail) 32 ml)
+    let reynolds : every float 1 most-columns (drop most-columns ((m ++ r) ++ tail)) ≡ s .settings .reynolds =
+    ap (λ (ws : List ℕ). every float 1 most-columns (drop most-columns ws)) split
+    ∙ ap (every float 1 most-columns) (drop-at m (r ++ tail) most-columns ml)
     ∙ subst (λ (n : ℕ). every float 1 n (r ++ tail) ≡ s .settings .reynolds) (h .reynolds-long) (each-back float 1 floatWords Number float-back (s .settings .reynolds) tail (h .reynolds)) in
-    let count : getD ((m ++ r) ++ tail) 64 0 ≡ s .design .count = getD-at (m ++ r) (s .design .count) ps 0 64 mr in
-    let parts : every partOf 6 16 (drop 65 ((m ++ r) ++ tail)) ≡ s .design .parts =
-    ap (every partOf 6 16) (sym (drop-drop 1 64 ((m ++ r) ++ tail)) ∙ ap (drop 1) (drop-at (m ++ r) tail 64 mr) ∙ sym (append-nil ps))
-    ∙ subst (λ (n : ℕ). every partOf 6 n (ps ++ []) ≡ s .design .parts) (h .parts-long) (each-back partOf 6 partWords PartHeld part-back (s .design .parts) [] (h .parts)) in
+    let count : getD ((m ++ r) ++ tail) (settings-words - machs-at) 0 ≡ s .design .count = getD-at (m ++ r) (s .design .count) ps 0 (settings-words - machs-at) mr in
+    let parts : every partOf part-words most-parts (drop (first-part - machs-at) ((m ++ r) ++ tail)) ≡ s .design .parts =
+    ap (every partOf part-words most-parts) (sym (drop-drop 1 (settings-words - machs-at) ((m ++ r) ++ tail)) ∙ ap (drop 1) (drop-at (m ++ r) tail (settings-words - machs-at) mr) ∙ sym (append-nil ps))
+    ∙ subst (λ (n : ℕ). every partOf part-words n (ps ++ []) ≡ s .design .parts) (h .parts-long) (each-back partOf part-words partWords PartHeld part-back (s .design .parts) [] (h .parts)) in
     let d = number-back (s .settings .«reference_diameter») (h .diameter) in
     let k = number-back (s .settings .roughness) (h .roughness) in
     let b = number-back (s .settings .«body_fineness») (h .fineness) in

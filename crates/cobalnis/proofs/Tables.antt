@@ -1,4 +1,4 @@
--- Two constants, and the answer of a test under a code. Assumes nothing.
+-- Two constants, and the answer of a test under a code.
 use mathlib.Core.Path.{_≡_, refl, ap}
 use Prim.Native.Nat.{ℕ, _+_, _*_}
 use lib.Ieee.{Float, toBits, ofBits, round, div, binary64}

@@ -1,47 +1,27 @@
 -- A turn of each loop over words: one thing more is read into its slot, one thing more is put into its words, or one thing more is tested.
--- Assumes nothing.
 use mathlib.Core.Path.{_≡_, refl, sym, ap, _∙_}
 use mathlib.Core.Bool.{Bool, true, false, cond}
 use mathlib.Core.List.{List, [], _∷_, _++_, append-nil}
 use Prim.Native.Nat.{ℕ, zero, suc, _+_, _-_, _*_, _<_}
 use native.Mathlib.Numerals.{add-one}
-use native.Mathlib.Nat.{suc-mul}
+use native.Mathlib.Nat.{suc-mul, zero-mul}
 use native.Mathlib.Omega.{arith}
 use lib.ListN.{length, set, getD, drop, replicate, length-append, drop-of-length-le}
 use lib.Seq.{sets, sets-eq, drop-cons, drop-drop, getD-drop}
 use lib.Dec.{ltb}
-use lib.Ieee.{Float}
-use Rattle.drag.specs.Friction.{machChecked}
-use Rattle.aero_error.specs.Checks.{_then_}
-use Rattle.cards.proofs.Numbers.{slot-next}
+use Rattle.sheet_data.specs.Tables.{tab, tab-same}
 use Rattle.sheet_text.proofs.Puts.{sets-append}
-use Rattle.cobalnis.specs.Words.{every, spread, shapesStand}
-use Rattle.cobalnis.specs.Answers.{machsTest}
+use Rattle.cobalnis.specs.Words.{every, spread, shapesKnown}
 
 -- ---- reading
 
-every-long : {A : Type 0} (read : List ℕ → A) (size n : ℕ) (ws : List ℕ) → length (every read size n ws) ≡ n
-unfolding every
-every-long read size zero ws = refl
-every-long read size (suc n) ws = ap suc (every-long read size n (drop size ws))
-
--- one thing more stands at the end
-every-more : {A : Type 0} (read : List ℕ → A) (size n : ℕ) (ws : List ℕ)
-    → every read size (suc n) ws ≡ every read size n ws ++ (read (drop (n * size) ws) ∷ [])
-unfolding every
-every-more {A = A} read size zero ws = let e : 0 ≡ 0 * size = omega arith in ap (λ (k : ℕ). read (drop k ws) ∷ []) e
-every-more {A = A} read size (suc n) ws =
-    let e : size + n * size ≡ suc n * size = let h = suc-mul n size in omega (arith, h) in
-    ap (λ (xs : List A). read ws ∷ xs)
-    (every-more read size n (drop size ws)
-    ∙ ap (λ (us : List ℕ). every read size n (drop size ws) ++ (read us ∷ [])) (drop-drop (n * size) size ws ∙ ap (λ (k : ℕ). drop k ws) e))
-
--- the next thing goes into its slot
-pub slot-filled : {A : Type 0} (read : List ℕ → A) (z : A) (size total n : ℕ) (ws : List ℕ) → n < total
-    → set (every read size n ws ++ replicate (total - n) z) n (read (drop (n * size) ws)) ≡ every read size (n + 1) ws ++ replicate (total - (n + 1)) z
-slot-filled {A = A} read z size total n ws h =
-    slot-next (every read size n ws) (read (drop (n * size) ws)) z total n (every-long read size n ws) h
-    ∙ ap (λ (xs : List A). xs ++ replicate (total - (n + 1)) z) (sym (ap (λ (k : ℕ). every read size k ws) (add-one n) ∙ every-more read size n ws))
+-- n things read one after the other, by their index
+pub every-tab : {A : Type 0} (read : List ℕ → A) (size n : ℕ) (ws : List ℕ) → every read size n ws ≡ tab n (λ k. read (drop (k * size) ws))
+unfolding every tab
+every-tab read size zero ws = refl
+every-tab {A = A} read size (suc n) ws =
+    rw (zero-mul size, every-tab read size n (drop size ws))
+    (ap (λ (xs : List A). read ws ∷ xs) (tab-same n _ _ (λ k h. let e : size + k * size ≡ suc k * size = omega (arith, suc-mul k size) in rw (drop-drop (k * size) size ws, e))))
 
 -- a word at a place of what is left
 pub word-at : (ws : List ℕ) (at k : ℕ) → getD ws (at + k) 0 ≡ getD (drop k (drop at ws)) 0 0
@@ -75,25 +55,21 @@ sets-all vs ws e = sets-eq vs ws 0 (omega arith) ∙ ap (λ (us : List ℕ). vs 
 -- ---- testing
 
 pub shapes-step : (n : ℕ) (ws : List ℕ) (i : ℕ) → i < n → ltb 5 (getD (drop (i * 6) ws) 0 0) ≡ false
-    → shapesStand (n - i) (drop (i * 6) ws) ≡ shapesStand (n - (i + 1)) (drop ((i + 1) * 6) ws)
-unfolding shapesStand
+    → shapesKnown (n - i) (drop (i * 6) ws) ≡ shapesKnown (n - (i + 1)) (drop ((i + 1) * 6) ws)
+unfolding shapesKnown
 shapes-step n ws i h low =
     let e : n - i ≡ suc (n - (i + 1)) = omega arith in
     let k : i * 6 + 6 ≡ (i + 1) * 6 = omega arith in
-    ap (λ (m : ℕ). shapesStand m (drop (i * 6) ws)) e
-    ∙ ap (λ (t : Bool). cond t false (shapesStand (n - (i + 1)) (drop 6 (drop (i * 6) ws)))) low
-    ∙ ap (shapesStand (n - (i + 1))) (drop-drop 6 (i * 6) ws ∙ ap (λ (m : ℕ). drop m ws) k)
+    ap (λ (m : ℕ). shapesKnown m (drop (i * 6) ws)) e
+    ∙ ap (λ (t : Bool). cond t false (shapesKnown (n - (i + 1)) (drop 6 (drop (i * 6) ws)))) low
+    ∙ ap (shapesKnown (n - (i + 1))) (drop-drop 6 (i * 6) ws ∙ ap (λ (m : ℕ). drop m ws) k)
 
-pub shapes-stop : (n : ℕ) (ws : List ℕ) (i : ℕ) → i < n → ltb 5 (getD (drop (i * 6) ws) 0 0) ≡ true → shapesStand (n - i) (drop (i * 6) ws) ≡ false
-unfolding shapesStand
+pub shapes-stop : (n : ℕ) (ws : List ℕ) (i : ℕ) → i < n → ltb 5 (getD (drop (i * 6) ws) 0 0) ≡ true → shapesKnown (n - i) (drop (i * 6) ws) ≡ false
+unfolding shapesKnown
 shapes-stop n ws i h high =
     let e : n - i ≡ suc (n - (i + 1)) = omega arith in
-    ap (λ (m : ℕ). shapesStand m (drop (i * 6) ws)) e
-    ∙ ap (λ (t : Bool). cond t false (shapesStand (n - (i + 1)) (drop 6 (drop (i * 6) ws)))) high
-
-pub machs-at : (machs : List Float) (i : ℕ) (d : Float) → i < length machs → machsTest (drop i machs) ≡ (machChecked (getD machs i d) then machsTest (drop (i + 1) machs))
-unfolding machsTest
-machs-at machs i d h = ap machsTest (drop-cons machs i d h ∙ ap (λ (k : ℕ). getD machs i d ∷ drop k machs) (sym (add-one i)))
+    ap (λ (m : ℕ). shapesKnown m (drop (i * 6) ws)) e
+    ∙ ap (λ (t : Bool). cond t false (shapesKnown (n - (i + 1)) (drop 6 (drop (i * 6) ws)))) high
 
 -- six words, stored one by one
 pub six-words : (ws : List ℕ) (at a b c d e f : ℕ)

@@ -6,7 +6,7 @@ use Prim.Native.Nat.{ℕ, _+_, _*_}
 use lib.ListN.{length, getD, drop}
 use lib.Seq.{sets}
 use lib.Dec.{eqb, leb, ltb}
-use lib.Ieee.{Float, toBits, binary64}
+use lib.Ieee.{Float, nan, toBits, binary64}
 use Rattle.elementary.specs.Constants.{0·0}
 use Rattle.elementary.specs.Steps.{SQRT, LN, EXP, POW, SIN}
 use Rattle.aero_error.specs.declared.AeroError.{AeroError}
@@ -16,8 +16,8 @@ use Rattle.aero_error.specs.declared.Check.{Check}
 use Rattle.aero_error.specs.declared.Check.the-variants.{Passed, Failed}
 use Rattle.aero_error.specs.declared.Coefficient.{Coefficient}
 use Rattle.aero_error.specs.declared.Coefficient.the-variants.{Value, Refused}
-use Rattle.aero_error.specs.Checks.{_then_, unless, _and-then_}
-use Rattle.aero_error.specs.Refusals.{numberOf, codeOf, valueOf}
+use Rattle.aero_error.specs.Checks.{upTo, _then_, unless, _and-then_}
+use Rattle.aero_error.specs.Refusals.{numberOf, codeOf, refusedValue}
 use Rattle.drag.specs.Friction.{machChecked, criticalReynolds, incompressibleSkinFriction, skinFrictionCoefficient, bodyFrictionFormFactor}
 use Rattle.drag.specs.Pressure.{stagnationRatio, stagnationPressureRatio, stagnationDragCoefficient, baseDragCoefficient, jointPressureDragCoefficient, boattailFactor}
 use Rattle.shapes.specs.declared.NoseShape.{NoseShape}
@@ -26,23 +26,23 @@ use Rattle.shapes.specs.Numbers.{shapeOf, parameterOf}
 use Rattle.stoney.specs.Tables.{noseAt}
 use Rattle.stoney.specs.Points.{machAt, dragAt, rangeOf, firstMach}
 use Rattle.stoney.specs.Lookup.{valueAndSlope}
-use Rattle.nose_drag.specs.declared.PressureDragCurve.{PressureDragCurve}
-use Rattle.nose_drag.specs.declared.Curve.{Curve}
-use Rattle.nose_drag.specs.declared.Curve.the-variants.{Built, Refused as NotBuilt}
+use Rattle.nose_drag.specs.declared.curve.PressureDragCurve.{PressureDragCurve}
+use Rattle.nose_drag.specs.declared.builder.Curve.{Curve}
+use Rattle.nose_drag.specs.declared.builder.Curve.the-variants.{Built, Refused as NotBuilt}
 use Rattle.nose_drag.specs.Below.{subsonicPressureDragCoefficient}
 use Rattle.nose_drag.specs.Methods.{ogivePressureDragFactor, finenessScaledPressureDrag, ellipsoidSubsonicPressureDrag}
 use Rattle.nose_drag.specs.Constants.{one-third}
 use Rattle.nose_drag.specs.Curves.{stepCurve, newCurve, coefficientOf}
-use Rattle.drag_sheet.specs.declared.Sheet.{Sheet}
+use Rattle.sheet_data.specs.declared.Sheet.{Sheet}
 use Rattle.drag_sheet.specs.declared.Answer.{Answer}
-use Rattle.drag_sheet.specs.Layout.{part-rows}
-use Rattle.drag_sheet.specs.Calls.{Call, Called, Opened, emptySlots}
+use Rattle.sheet_data.specs.Layout.{most-parts}
+use Rattle.drag_sheet.specs.Calls.{Call, Called, Opened}
 use Rattle.cards.specs.declared.PartRead.{PartRead}
 use Rattle.cards.specs.declared.PartRead.the-variants.{Read, Refused as NoPart}
 use Rattle.cards.specs.declared.SettingsRead.{SettingsRead}
 use Rattle.cobalnis.specs.declared.Formula.{Formula}
 use Rattle.cobalnis.specs.declared.Formula.the-variants.{Is, Unknown}
-use Rattle.cobalnis.specs.Words.{spread, partWords, settingsOf, settingsWords, sheetOf, sheetWords, shapesStand}
+use Rattle.cobalnis.specs.Words.{first-part, spread, partWords, settingsOf, settingsWords, sheetOf, sheetWords, shapesKnown}
 
 -- ---- the status and the bits of an answer
 
@@ -61,7 +61,7 @@ answerStatus (Refused e) = statusOf e
 -- the bits of the value, or of the value refused
 abbrev pub answerBits : Coefficient → ℕ
 answerBits (Value v) = toBits binary64 v
-answerBits (Refused e) = toBits binary64 (valueOf e)
+answerBits (Refused e) = toBits binary64 (refusedValue e)
 
 -- a test that passes answers +0
 abbrev pub tested : Check → Coefficient
@@ -101,13 +101,17 @@ formulas a b c d e =
     ∷ Is (Value (parameterOf LV-HAACK))
     ∷ []
 
-abbrev pub formulaOf : ℕ → Float → Float → Float → Float → Float → Formula
+unfoldable pub formulaOf : ℕ → Float → Float → Float → Float → Float → Formula
 formulaOf which a b c d e = getD (formulas a b c d e) which Unknown
 
--- the status r, and the lent word before and after
-abbrev pub FormulaDone : Formula → ℕ → ℕ → ℕ → Type 0
-FormulaDone (Is c) r before after = (r ≡ answerStatus c) × (after ≡ answerBits c)
-FormulaDone Unknown r before after = (r ≡ no-such) × (after ≡ before)
+abbrev pub formulaStatus : Formula → ℕ
+formulaStatus (Is c) = answerStatus c
+formulaStatus Unknown = no-such
+
+-- the lent word, which stays as it was where the number names no formula
+abbrev pub formulaBits : Formula → ℕ → ℕ
+formulaBits (Is c) before = answerBits c
+formulaBits Unknown before = before
 
 -- whether a number is one of the codes 1 to 22
 abbrev pub isCode : ℕ → Bool
@@ -148,8 +152,7 @@ curveOf shape parameter fineness angle = cond (eqb shape 6) (Built stepCurve) (n
 
 -- 1 for the first bad Mach
 unfoldable pub machsTest : List Float → Check
-machsTest [] = Passed
-machsTest (M ∷ rest) = machChecked M then machsTest rest
+machsTest Ms = upTo (length Ms) (λ k. machChecked (getD Ms k nan))
 
 abbrev pub coefficientBits : PressureDragCurve → Float → ℕ
 coefficientBits curve M = answerBits (coefficientOf curve M)
@@ -164,10 +167,10 @@ about value curve = toBits binary64 value ∷ toBits binary64 (curve .rest) ∷ 
 -- a curve at these Machs: the status r, the lent words before (xs) and after (ys), and what is said about the curve
 abbrev pub ReadAt : Check → PressureDragCurve → List Float → List ℕ → ℕ → List ℕ → List ℕ → Type 0
 ReadAt Passed curve machs xs r ys said = (r ≡ 0) × (ys ≡ sets xs 0 (spread (coefficientWord curve) machs)) × (said ≡ about 0·0 curve)
-ReadAt (Failed e) curve machs xs r ys said = (r ≡ statusOf e) × (ys ≡ xs) × (said ≡ about (valueOf e) curve)
+ReadAt (Failed e) curve machs xs r ys said = (r ≡ statusOf e) × (ys ≡ xs) × (said ≡ about (refusedValue e) curve)
 
 abbrev pub CurveDone : Curve → List Float → List ℕ → ℕ → List ℕ → List ℕ → Type 0
-CurveDone (NotBuilt e) machs xs r ys said = (r ≡ statusOf e) × (ys ≡ xs) × (said ≡ toBits binary64 (valueOf e) ∷ 0 ∷ 0 ∷ [])
+CurveDone (NotBuilt e) machs xs r ys said = (r ≡ statusOf e) × (ys ≡ xs) × (said ≡ toBits binary64 (refusedValue e) ∷ 0 ∷ 0 ∷ [])
 CurveDone (Built curve) machs xs r ys said = ReadAt (unless (ltb (length xs) (length machs)) TooFewCells then machsTest machs) curve machs xs r ys said
 
 -- a shape's number above 6 names none
@@ -180,7 +183,7 @@ CurveAnswered true curve machs xs before r ys said = (r ≡ no-such) × (ys ≡ 
 -- accepted, the words are those of the sheet handed back; refused, they are as they were, and the value refused is handed out
 abbrev pub Shown : Check → Sheet → List ℕ → ℕ → List ℕ → ℕ → Type 0
 Shown Passed sheet ws r ws' bits' = (r ≡ 0) × (ws' ≡ sheetWords sheet) × (bits' ≡ 0)
-Shown (Failed e) sheet ws r ws' bits' = (r ≡ statusOf e) × (ws' ≡ ws) × (bits' ≡ toBits binary64 (valueOf e))
+Shown (Failed e) sheet ws r ws' bits' = (r ≡ statusOf e) × (ws' ≡ ws) × (bits' ≡ toBits binary64 (refusedValue e))
 
 -- the answer of `drag_sheet`'s own call on the sheet that the words stand for, shown in words
 pub record CallShown (call : Call) (ws : List ℕ) (xs : List Float) (r : ℕ) (ws' : List ℕ) (bits' : ℕ) (ys : List Float) : Type 0 where
@@ -190,7 +193,7 @@ pub record CallShown (call : Call) (ws : List ℕ) (xs : List Float) (r : ℕ) (
 
 pub record OpenShown (ws : List ℕ) (xs : List Float) (r : ℕ) (ws' : List ℕ) (bits' : ℕ) (ys : List Float) : Type 0 where
   pub answer : Answer
-  pub opened : Opened (settingsOf ws) emptySlots xs answer ys
+  pub opened : Opened (settingsOf ws) xs answer ys
   pub shown : Shown (answer .outcome) (answer .sheet) ws r ws' bits'
 
 -- where every shape has a number up to 5; else refusal 5 before all others
@@ -198,11 +201,11 @@ abbrev pub CallDone : Bool → Call → List ℕ → List Float → ℕ → List
 CallDone true call ws xs r ws' bits' ys = CallShown call ws xs r ws' bits' ys
 CallDone false call ws xs r ws' bits' ys = (r ≡ statusOf (Broken ReservedBit)) × (ws' ≡ ws) × (bits' ≡ 0) × (ys ≡ xs)
 
-abbrev pub sheetStands : List ℕ → Bool
-sheetStands ws = shapesStand part-rows (drop 69 ws)
+abbrev pub sheetKnown : List ℕ → Bool
+sheetKnown ws = shapesKnown most-parts (drop first-part ws)
 
-abbrev pub partStands : List ℕ → List ℕ → Bool
-partStands part ws = cond (ltb 5 (getD part 0 0)) false (sheetStands ws)
+abbrev pub partKnown : List ℕ → List ℕ → Bool
+partKnown part ws = cond (ltb 5 (getD part 0 0)) false (sheetKnown ws)
 
 -- ---- cards
 
@@ -210,7 +213,7 @@ abbrev pub PartCard : PartRead → ℕ → List ℕ → List ℕ → ℕ → ℕ
 PartCard (Read part last) r ws ws' next next' = (r ≡ 0) × (ws' ≡ partWords part) × (next' ≡ last)
 PartCard (NoPart e) r ws ws' next next' = (r ≡ statusOf e) × (ws' ≡ ws) × (next' ≡ next)
 
--- a settings card gives the first 68 words of a sheet
+-- a settings card gives a sheet's first words
 abbrev pub SettingsCard : Check → SettingsRead → ℕ → List ℕ → List ℕ → ℕ → ℕ → Type 0
 SettingsCard Passed read r ws ws' next next' = (r ≡ 0) × (ws' ≡ sets ws 0 (settingsWords (read .settings))) × (next' ≡ read .next)
 SettingsCard (Failed e) read r ws ws' next next' = (r ≡ statusOf e) × (ws' ≡ ws) × (next' ≡ next)

@@ -1,19 +1,40 @@
 -- A part and a sheet as words of 64 bits: what a list of words stands for, and the words of a part and of a sheet. A float is the word of its bits.
 --
---   a part    6 words: the shape's number, its parameter, length, aft diameter, joint angle, wetted ratio
---   a sheet 165 words: reference diameter, roughness, body fineness, number of columns, 32 Machs, 32 Reynolds numbers, number of parts, 16 parts
+--   a part's words: the shape's number, its parameter, length, aft diameter, joint angle, wetted ratio
+--   a sheet's words: reference diameter, roughness, body fineness, number of columns, the Machs, the Reynolds numbers, number of parts, the parts
 use mathlib.Core.Bool.{Bool, true, false, cond}
 use mathlib.Core.List.{List, [], _∷_, _++_}
-use Prim.Native.Nat.{ℕ, zero, suc}
+use Prim.Native.Nat.{ℕ, zero, suc, _+_, _*_}
 use lib.ListN.{getD, drop}
 use lib.Dec.{ltb}
 use lib.Ieee.{Float, toBits, binary64}
 use Rattle.elementary.specs.Arithmetic.{bits}
 use Rattle.shapes.specs.Numbers.{numberOfShape, shapeOf, parameterOf}
-use Rattle.drag_sheet.specs.declared.Settings.{Settings}
-use Rattle.drag_sheet.specs.declared.Part.{Part}
-use Rattle.drag_sheet.specs.declared.Sheet.{Sheet}
-use Rattle.drag_sheet.specs.Layout.{most-columns, part-rows}
+use Rattle.sheet_data.specs.declared.Settings.{Settings}
+use Rattle.sheet_data.specs.declared.Part.{Part}
+use Rattle.sheet_data.specs.declared.Sheet.{Sheet}
+use Rattle.sheet_data.specs.Layout.{most-columns, most-parts}
+
+-- ---- where the words lie
+
+abbrev pub part-words : ℕ
+part-words = 6
+
+abbrev pub machs-at : ℕ
+machs-at = 4
+
+abbrev pub reynolds-at : ℕ
+reynolds-at = machs-at + most-columns
+
+abbrev pub settings-words : ℕ
+settings-words = reynolds-at + most-columns
+
+-- the parts, after the settings and the number of parts
+abbrev pub first-part : ℕ
+first-part = settings-words + 1
+
+abbrev pub sheet-words : ℕ
+sheet-words = first-part + most-parts * part-words
 
 -- ---- what words stand for
 
@@ -40,17 +61,17 @@ settingsOf ws = record {
   roughness = bits (getD ws 1 0);
   «body_fineness» = bits (getD ws 2 0);
   count = getD ws 3 0;
-  machs = every float 1 most-columns (drop 4 ws);
-  reynolds = every float 1 most-columns (drop 36 ws);
+  machs = every float 1 most-columns (drop machs-at ws);
+  reynolds = every float 1 most-columns (drop reynolds-at ws);
 }
 
 abbrev pub sheetOf : List ℕ → Sheet
-sheetOf ws = record { settings = settingsOf ws; design = record { count = getD ws 68 0; parts = every partOf 6 part-rows (drop 69 ws) } }
+sheetOf ws = record { settings = settingsOf ws; design = record { count = getD ws settings-words 0; parts = every partOf part-words most-parts (drop first-part ws) } }
 
 -- whether each of n parts has a shape's number up to 5
-unfoldable pub shapesStand : ℕ → List ℕ → Bool
-shapesStand zero ws = true
-shapesStand (suc n) ws = cond (ltb 5 (getD ws 0 0)) false (shapesStand n (drop 6 ws))
+unfoldable pub shapesKnown : ℕ → List ℕ → Bool
+shapesKnown zero ws = true
+shapesKnown (suc n) ws = cond (ltb 5 (getD ws 0 0)) false (shapesKnown n (drop part-words ws))
 
 -- ---- the words of a thing
 

@@ -1,5 +1,6 @@
-// The library for programs in C and Rust (`rt staticlib cobalnis`): functions on numbers and slices that reach every function document 01 names,
-// the sheet's calls and the cards. Each tests its own input, and none has a `requires`; what a caller owes is valid memory alone.
+// The library for programs in C and Rust (`rt staticlib cobalnis`): functions on numbers and slices that reach every function of
+// docs/REFERENCE.md, Ported, the sheet's calls and the cards. Each tests its own input, and none has a `requires`; what a caller owes is valid
+// memory alone.
 //
 // An answer is a status: 0 is accepted, else the refusal's number plus 256 times the code of refusal 1; `NO_SUCH` is for a number that names
 // nothing. A float is handed out by its bits, 7ff8000000000000 for every NaN. `words` has a part and a sheet as words.
@@ -10,9 +11,9 @@ ghost use lib.Dec.{ltb};
 ghost use lib.ListN.{length};
 ghost use lib.Seq.{sets};
 ghost use Rattle.aero_error.specs.Checks.{_then_, unless, dimension};
-ghost use Rattle.aero_error.specs.Refusals.{valueOf, codeOfQuantity};
+ghost use Rattle.aero_error.specs.Refusals.{refusedValue, codeOfQuantity};
 ghost use Rattle.nose_drag.specs.Curves.{takesConeFormula};
-ghost use Rattle.drag_sheet.specs.Calls.{insert as insertCall, remove as removeCall, replace as replaceCall, column as columnCall};
+ghost use Rattle.drag_sheet.specs.Calls.{insert as insertCall, remove as removeCall, replace as replaceCall, setColumn as columnCall};
 ghost use Rattle.aero_error.specs.declared.AeroError.the-variants.{Broken};
 ghost use Rattle.aero_error.specs.declared.Rule.the-variants.{TooFewCells};
 ghost use Rattle.cards.specs.Cards.{partAt, settingsAt};
@@ -20,7 +21,7 @@ ghost use Rattle.shapes.specs.Numbers.{shapeOf};
 ghost use Rattle.sheet_text.specs.Text.{Printed};
 ghost use lib.Ieee.{toBits, binary64};
 ghost use Rattle.cobalnis.specs.Words.{spread, partOf};
-ghost use Rattle.cobalnis.specs.Answers.{statusOf, no-such, answerStatus, answerBits, tested, formulaOf, FormulaDone, dimensionStatus, dimensionBits, isNose, pointStatus, pointWords, lookupWords, curveOf, machsTest, coefficientBits, coefficientWord, about, ReadAt, CurveAnswered, Shown, CallDone, OpenShown, sheetStands, partStands, PartCard, SettingsCard};
+ghost use Rattle.cobalnis.specs.Answers.{statusOf, no-such, answerStatus, answerBits, tested, formulaOf, formulaStatus, formulaBits, dimensionStatus, dimensionBits, isNose, pointStatus, pointWords, lookupWords, curveOf, machsTest, coefficientBits, coefficientWord, about, ReadAt, CurveAnswered, Shown, CallDone, OpenShown, sheetKnown, partKnown, PartCard, SettingsCard};
 
 mod words;
 
@@ -35,6 +36,12 @@ use nose_drag::Curve;
 use nose_drag::PressureDragCurve;
 use shapes::NoseShape;
 use stoney::StoneyNose;
+pub use words::FIRST_PART;
+pub use words::MACHS_AT;
+pub use words::PART_WORDS;
+pub use words::REYNOLDS_AT;
+pub use words::SETTINGS_WORDS;
+pub use words::SHEET_WORDS;
 
 // The status for a number that names no formula, shape, nose or quantity.
 const NO_SUCH: u32 = 65535;
@@ -50,7 +57,7 @@ fn status_of(e: AeroError) -> u32
 }
 
 fn refuse(e: AeroError, bits: &mut u64) -> u32
-    ensures { λ r. ⌜ (r ≡ statusOf e) × (now (bits .exit) ≡ toBits binary64 (valueOf e)) ⌝ }
+    ensures { λ r. ⌜ (r ≡ statusOf e) × (now (bits .exit) ≡ toBits binary64 (refusedValue e)) ⌝ }
 {
     *bits = elementary::to_bits(e.value());
     status_of(e)
@@ -127,7 +134,7 @@ pub extern "C" fn cobalnis_formula(
     e: f64,
     bits: &mut u64,
 ) -> u32
-    ensures { λ r. ⌜ FormulaDone (formulaOf which a b c d e) r (now (bits .entry)) (now (bits .exit)) ⌝ }
+    ensures { λ r. ⌜ (r ≡ formulaStatus (formulaOf which a b c d e)) × (now (bits .exit) ≡ formulaBits (formulaOf which a b c d e) (now (bits .entry))) ⌝ }
 {
     match formula_of(which, a, b, c, d, e) {
         Formula::Is(answer) => hand_out(answer, bits),
@@ -347,7 +354,7 @@ pub extern "C" fn cobalnis_curve(
 // ---- the sheet
 
 // A call's answer in words: a refused one leaves them.
-fn show(answer: Answer, words: &mut [u64; 165], bits: &mut u64) -> u32
+fn show(answer: Answer, words: &mut [u64; SHEET_WORDS], bits: &mut u64) -> u32
     ensures { λ r. ⌜ Shown (answer .outcome) (answer .sheet) (now (words .entry)) r (now (words .exit)) (now (bits .exit)) ⌝ }
 {
     let outcome = answer.outcome;
@@ -363,18 +370,22 @@ fn show(answer: Answer, words: &mut [u64; 165], bits: &mut u64) -> u32
 }
 
 // Whether the part given and each part of the sheet has a shape's number up to 5.
-fn part_stands(part: &[u64; 6], words: &[u64; 165]) -> bool
-    ensures { λ r. ⌜ r ≡ partStands (now (part .entry)) (now (words .entry)) ⌝ }
+fn part_known(part: &[u64; PART_WORDS], words: &[u64; SHEET_WORDS]) -> bool
+    ensures { λ r. ⌜ r ≡ partKnown (now (part .entry)) (now (words .entry)) ⌝ }
 {
     if 5 < part[0] {
         return false;
     }
-    words::shapes_stand(words)
+    words::shapes_known(words)
 }
 
 // Opens a sheet with the settings of its words; its design is emptied.
 #[no_mangle]
-pub extern "C" fn cobalnis_open(words: &mut [u64; 165], cells: &mut [f64], bits: &mut u64) -> u32
+pub extern "C" fn cobalnis_open(
+    words: &mut [u64; SHEET_WORDS],
+    cells: &mut [f64],
+    bits: &mut u64,
+) -> u32
     ensures { λ r. ⌜ OpenShown (now (words .entry)) (now (cells .entry)) r (now (words .exit)) (now (bits .exit)) (now (cells .exit)) ⌝ }
 {
     let answer = drag_sheet::open(words::settings_of(words), cells);
@@ -383,15 +394,15 @@ pub extern "C" fn cobalnis_open(words: &mut [u64; 165], cells: &mut [f64], bits:
 
 #[no_mangle]
 pub extern "C" fn cobalnis_insert(
-    words: &mut [u64; 165],
+    words: &mut [u64; SHEET_WORDS],
     place: usize,
-    part: &[u64; 6],
+    part: &[u64; PART_WORDS],
     cells: &mut [f64],
     bits: &mut u64,
 ) -> u32
-    ensures { λ r. ⌜ CallDone (partStands (now (part .entry)) (now (words .entry))) (insertCall place (partOf (now (part .entry)))) (now (words .entry)) (now (cells .entry)) r (now (words .exit)) (now (bits .exit)) (now (cells .exit)) ⌝ }
+    ensures { λ r. ⌜ CallDone (partKnown (now (part .entry)) (now (words .entry))) (insertCall place (partOf (now (part .entry)))) (now (words .entry)) (now (cells .entry)) r (now (words .exit)) (now (bits .exit)) (now (cells .exit)) ⌝ }
 {
-    if part_stands(part, words) {
+    if part_known(part, words) {
         let sheet = words::sheet_of(words);
         let answer = drag_sheet::insert(sheet, place, words::part_of(part), cells);
         return show(answer, words, bits);
@@ -401,15 +412,15 @@ pub extern "C" fn cobalnis_insert(
 
 #[no_mangle]
 pub extern "C" fn cobalnis_replace(
-    words: &mut [u64; 165],
+    words: &mut [u64; SHEET_WORDS],
     place: usize,
-    part: &[u64; 6],
+    part: &[u64; PART_WORDS],
     cells: &mut [f64],
     bits: &mut u64,
 ) -> u32
-    ensures { λ r. ⌜ CallDone (partStands (now (part .entry)) (now (words .entry))) (replaceCall place (partOf (now (part .entry)))) (now (words .entry)) (now (cells .entry)) r (now (words .exit)) (now (bits .exit)) (now (cells .exit)) ⌝ }
+    ensures { λ r. ⌜ CallDone (partKnown (now (part .entry)) (now (words .entry))) (replaceCall place (partOf (now (part .entry)))) (now (words .entry)) (now (cells .entry)) r (now (words .exit)) (now (bits .exit)) (now (cells .exit)) ⌝ }
 {
-    if part_stands(part, words) {
+    if part_known(part, words) {
         let sheet = words::sheet_of(words);
         let answer = drag_sheet::replace(sheet, place, words::part_of(part), cells);
         return show(answer, words, bits);
@@ -419,14 +430,14 @@ pub extern "C" fn cobalnis_replace(
 
 #[no_mangle]
 pub extern "C" fn cobalnis_remove(
-    words: &mut [u64; 165],
+    words: &mut [u64; SHEET_WORDS],
     place: usize,
     cells: &mut [f64],
     bits: &mut u64,
 ) -> u32
-    ensures { λ r. ⌜ CallDone (sheetStands (now (words .entry))) (removeCall place) (now (words .entry)) (now (cells .entry)) r (now (words .exit)) (now (bits .exit)) (now (cells .exit)) ⌝ }
+    ensures { λ r. ⌜ CallDone (sheetKnown (now (words .entry))) (removeCall place) (now (words .entry)) (now (cells .entry)) r (now (words .exit)) (now (bits .exit)) (now (cells .exit)) ⌝ }
 {
-    if words::shapes_stand(words) {
+    if words::shapes_known(words) {
         let answer = drag_sheet::remove(words::sheet_of(words), place, cells);
         return show(answer, words, bits);
     }
@@ -435,16 +446,16 @@ pub extern "C" fn cobalnis_remove(
 
 #[no_mangle]
 pub extern "C" fn cobalnis_set_column(
-    words: &mut [u64; 165],
+    words: &mut [u64; SHEET_WORDS],
     column: usize,
     mach: f64,
     reynolds: f64,
     cells: &mut [f64],
     bits: &mut u64,
 ) -> u32
-    ensures { λ r. ⌜ CallDone (sheetStands (now (words .entry))) (columnCall column mach reynolds) (now (words .entry)) (now (cells .entry)) r (now (words .exit)) (now (bits .exit)) (now (cells .exit)) ⌝ }
+    ensures { λ r. ⌜ CallDone (sheetKnown (now (words .entry))) (columnCall column mach reynolds) (now (words .entry)) (now (cells .entry)) r (now (words .exit)) (now (bits .exit)) (now (cells .exit)) ⌝ }
 {
-    if words::shapes_stand(words) {
+    if words::shapes_known(words) {
         let sheet = words::sheet_of(words);
         let answer = drag_sheet::set_column(sheet, column, mach, reynolds, cells);
         return show(answer, words, bits);
@@ -454,12 +465,12 @@ pub extern "C" fn cobalnis_set_column(
 
 // ---- cards
 
-// The settings card at a position of the bytes, as the first 68 words of a sheet, and the position after it.
+// The settings card at a position of the bytes, as the first words of a sheet, and the position after it.
 #[no_mangle]
 pub extern "C" fn cobalnis_read_settings(
     bytes: &[u8],
     at: usize,
-    words: &mut [u64; 165],
+    words: &mut [u64; SHEET_WORDS],
     next: &mut usize,
 ) -> u32
     ensures { λ r. ⌜ SettingsCard (settingsAt (now (bytes .entry)) at .outcome) (settingsAt (now (bytes .entry)) at) r (now (words .entry)) (now (words .exit)) (now (next .entry)) (now (next .exit)) ⌝ }
@@ -482,7 +493,7 @@ pub extern "C" fn cobalnis_read_settings(
 pub extern "C" fn cobalnis_read_part(
     bytes: &[u8],
     at: usize,
-    words: &mut [u64; 6],
+    words: &mut [u64; PART_WORDS],
     next: &mut usize,
 ) -> u32
     ensures { λ r. ⌜ PartCard (partAt (now (bytes .entry)) at) r (now (words .entry)) (now (words .exit)) (now (next .entry)) (now (next .exit)) ⌝ }

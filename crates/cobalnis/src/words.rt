@@ -1,38 +1,37 @@
 // A part and a sheet as words of 64 bits, the form in which a program in C or Rust holds them. Every list of words of the right number
 // stands for a part or a sheet, whatever the words are, but for a shape's number above 5, which the callers refuse.
 ghost use mathlib.Core.Path.{_≡_};
-ghost use Prim.Native.Nat.{_≤_};
-ghost use lib.ListN.{drop};
+ghost use Prim.Native.Nat.{_+_, _≤_};
+ghost use lib.ListN.{length, drop};
 ghost use lib.Seq.{sets};
-ghost use Rattle.cobalnis.specs.Words.{every, spread, float, floatWords, partOf, partWords, settingsOf, settingsWords, sheetOf, sheetWords, shapesStand};
-use drag_sheet::Design;
-use drag_sheet::Part;
-use drag_sheet::Settings;
-use drag_sheet::Sheet;
+ghost use Rattle.sheet_data.specs.Layout.{most-parts, most-columns};
+ghost use Rattle.cobalnis.specs.Words.{part-words, first-part, sheet-words, every, spread, float, floatWords, partOf, partWords, settingsOf, settingsWords, sheetOf, sheetWords, shapesKnown};
 use shapes::NoseShape;
+use sheet_data::Design;
+use sheet_data::Part;
+use sheet_data::Settings;
+use sheet_data::Sheet;
+use sheet_data::layout::COLUMNS;
+use sheet_data::layout::PARTS;
 
-// A part's words begin here in a sheet's, after 68 words of settings and the number of parts.
-const FIRST_PART: usize = 69;
+// Where the words lie: the Machs, the Reynolds numbers, the number of parts, the parts.
+pub const PART_WORDS: usize = 6;
 
-const PART_WORDS: usize = 6;
+pub const MACHS_AT: usize = 4;
+
+pub const REYNOLDS_AT: usize = MACHS_AT + COLUMNS;
+
+pub const SETTINGS_WORDS: usize = REYNOLDS_AT + COLUMNS;
+
+pub const FIRST_PART: usize = SETTINGS_WORDS + 1;
+
+pub const SHEET_WORDS: usize = FIRST_PART + PARTS * PART_WORDS;
 
 // ---- from words
 
-pub fn part_of(words: &[u64; 6]) -> Part
-    ensures { λ r. ⌜ r ≡ partOf (now (words .entry)) ⌝ }
-{
-    Part {
-        shape: NoseShape::of_number(words[0], elementary::from_bits(words[1])),
-        length: elementary::from_bits(words[2]),
-        aft_diameter: elementary::from_bits(words[3]),
-        joint_angle: elementary::from_bits(words[4]),
-        wetted_ratio: elementary::from_bits(words[5]),
-    }
-}
-
-// The part whose words begin at a place of a sheet's.
-fn part_at(words: &[u64; 165], at: usize) -> Part
-    requires { ⌜ at ≤ 159 ⌝ }
+// The part whose words begin at a place.
+fn part_at(words: &[u64], at: usize) -> Part
+    requires { ⌜ at + part-words ≤ length (now words) ⌝ }
     ensures { λ r. ⌜ r ≡ partOf (drop at (now (words .entry))) ⌝ }
 {
     Part {
@@ -44,44 +43,44 @@ fn part_at(words: &[u64; 165], at: usize) -> Part
     }
 }
 
-// 32 floats of a sheet's words.
-fn floats_at(words: &[u64; 165], at: usize) -> [f64; 32]
-    requires { ⌜ at ≤ 133 ⌝ }
-    ensures { λ r. ⌜ r ≡ every float 1 32 (drop at (now (words .entry))) ⌝ }
+pub fn part_of(words: &[u64; PART_WORDS]) -> Part
+    ensures { λ r. ⌜ r ≡ partOf (now (words .entry)) ⌝ }
 {
-    let mut out = [0.0; 32];
+    part_at(words, 0)
+}
+
+// A float for each column, from a sheet's words.
+fn floats_at(words: &[u64; SHEET_WORDS], at: usize) -> [f64; COLUMNS]
+    requires { ⌜ at + most-columns ≤ sheet-words ⌝ }
+    ensures { λ r. ⌜ r ≡ every float 1 most-columns (drop at (now (words .entry))) ⌝ }
+{
+    let mut out = [0.0; COLUMNS];
     let mut i = 0usize;
-    while i < 32 {
+    while i < COLUMNS {
         out[i] = elementary::from_bits(words[at + i]);
         i += 1;
     }
     out
 }
 
-fn parts_of(words: &[u64; 165]) -> [Part; 16]
-    ensures { λ r. ⌜ r ≡ every partOf 6 16 (drop 69 (now (words .entry))) ⌝ }
+fn parts_of(words: &[u64; SHEET_WORDS]) -> [Part; PARTS]
+    ensures { λ r. ⌜ r ≡ every partOf part-words most-parts (drop first-part (now (words .entry))) ⌝ }
 {
-    let none = Part {
-        shape: NoseShape::Conical,
-        length: 0.0,
-        aft_diameter: 0.0,
-        joint_angle: 0.0,
-        wetted_ratio: 0.0,
-    };
-    let mut out = [none; 16];
+    let empty = Part::empty();
+    let mut out = [empty; PARTS];
     let mut i = 0usize;
-    while i < 16 {
+    while i < PARTS {
         out[i] = part_at(words, FIRST_PART + PART_WORDS * i);
         i += 1;
     }
     out
 }
 
-pub fn settings_of(words: &[u64; 165]) -> Settings
+pub fn settings_of(words: &[u64; SHEET_WORDS]) -> Settings
     ensures { λ r. ⌜ r ≡ settingsOf (now (words .entry)) ⌝ }
 {
-    let machs = floats_at(words, 4);
-    let reynolds = floats_at(words, 36);
+    let machs = floats_at(words, MACHS_AT);
+    let reynolds = floats_at(words, REYNOLDS_AT);
     Settings {
         reference_diameter: elementary::from_bits(words[0]),
         roughness: elementary::from_bits(words[1]),
@@ -92,7 +91,7 @@ pub fn settings_of(words: &[u64; 165]) -> Settings
     }
 }
 
-pub fn sheet_of(words: &[u64; 165]) -> Sheet
+pub fn sheet_of(words: &[u64; SHEET_WORDS]) -> Sheet
     ensures { λ r. ⌜ r ≡ sheetOf (now (words .entry)) ⌝ }
 {
     let settings = settings_of(words);
@@ -100,18 +99,18 @@ pub fn sheet_of(words: &[u64; 165]) -> Sheet
     Sheet {
         settings,
         design: Design {
-            count: words[68] as usize,
+            count: words[SETTINGS_WORDS] as usize,
             parts,
         },
     }
 }
 
-// Whether each of a sheet's 16 shapes has a number up to 5.
-pub fn shapes_stand(words: &[u64; 165]) -> bool
-    ensures { λ r. ⌜ r ≡ shapesStand 16 (drop 69 (now (words .entry))) ⌝ }
+// Whether each of a sheet's shapes has a number up to 5.
+pub fn shapes_known(words: &[u64; SHEET_WORDS]) -> bool
+    ensures { λ r. ⌜ r ≡ shapesKnown most-parts (drop first-part (now (words .entry))) ⌝ }
 {
     let mut i = 0usize;
-    while i < 16 {
+    while i < PARTS {
         if 5 < words[FIRST_PART + PART_WORDS * i] {
             return false;
         }
@@ -122,7 +121,7 @@ pub fn shapes_stand(words: &[u64; 165]) -> bool
 
 // ---- to words
 
-pub fn part_words(part: Part) -> [u64; 6]
+pub fn part_words(part: Part) -> [u64; PART_WORDS]
     ensures { λ r. ⌜ r ≡ partWords part ⌝ }
 {
     let shape = part.shape;
@@ -136,19 +135,19 @@ pub fn part_words(part: Part) -> [u64; 6]
     ]
 }
 
-fn put_floats(floats: [f64; 32], words: &mut [u64; 165], start: usize)
-    requires { ⌜ start ≤ 133 ⌝ }
+fn put_floats(floats: [f64; COLUMNS], words: &mut [u64; SHEET_WORDS], start: usize)
+    requires { ⌜ start + most-columns ≤ sheet-words ⌝ }
     ensures { λ _. ⌜ now (words .exit) ≡ sets (now (words .entry)) start (spread floatWords floats) ⌝ }
 {
     let mut i = 0usize;
-    while i < 32 {
+    while i < COLUMNS {
         words[start + i] = elementary::to_bits(floats[i]);
         i += 1;
     }
 }
 
-fn put_part(part: Part, words: &mut [u64; 165], at: usize)
-    requires { ⌜ at ≤ 159 ⌝ }
+fn put_part(part: Part, words: &mut [u64; SHEET_WORDS], at: usize)
+    requires { ⌜ at + part-words ≤ sheet-words ⌝ }
     ensures { λ _. ⌜ now (words .exit) ≡ sets (now (words .entry)) at (partWords part) ⌝ }
 {
     let six = part_words(part);
@@ -160,19 +159,19 @@ fn put_part(part: Part, words: &mut [u64; 165], at: usize)
     words[at + 5] = six[5];
 }
 
-fn put_parts(parts: [Part; 16], words: &mut [u64; 165])
-    ensures { λ _. ⌜ now (words .exit) ≡ sets (now (words .entry)) 69 (spread partWords parts) ⌝ }
+fn put_parts(parts: [Part; PARTS], words: &mut [u64; SHEET_WORDS])
+    ensures { λ _. ⌜ now (words .exit) ≡ sets (now (words .entry)) first-part (spread partWords parts) ⌝ }
 {
     let mut i = 0usize;
-    while i < 16 {
+    while i < PARTS {
         let part = parts[i];
         put_part(part, words, FIRST_PART + PART_WORDS * i);
         i += 1;
     }
 }
 
-// The first 68 words.
-pub fn put_settings(settings: Settings, words: &mut [u64; 165])
+// The settings' words, which come first.
+pub fn put_settings(settings: Settings, words: &mut [u64; SHEET_WORDS])
     ensures { λ _. ⌜ now (words .exit) ≡ sets (now (words .entry)) 0 (settingsWords settings) ⌝ }
 {
     let machs = settings.machs;
@@ -181,19 +180,19 @@ pub fn put_settings(settings: Settings, words: &mut [u64; 165])
     words[1] = elementary::to_bits(settings.roughness);
     words[2] = elementary::to_bits(settings.body_fineness);
     words[3] = settings.count as u64;
-    put_floats(machs, words, 4);
-    put_floats(reynolds, words, 36);
+    put_floats(machs, words, MACHS_AT);
+    put_floats(reynolds, words, REYNOLDS_AT);
 }
 
-pub fn sheet_words(sheet: Sheet) -> [u64; 165]
+pub fn sheet_words(sheet: Sheet) -> [u64; SHEET_WORDS]
     ensures { λ r. ⌜ r ≡ sheetWords sheet ⌝ }
 {
     let settings = sheet.settings;
     let design = sheet.design;
     let parts = design.parts;
-    let mut out = [0u64; 165];
+    let mut out = [0u64; SHEET_WORDS];
     put_settings(settings, &mut out);
-    out[68] = design.count as u64;
+    out[SETTINGS_WORDS] = design.count as u64;
     put_parts(parts, &mut out);
     out
 }

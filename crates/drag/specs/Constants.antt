@@ -53,9 +53,6 @@ abbrev pub 0·58 : Float
 abbrev pub 0·76 : Float
 0·76 = bits 0x3fe851eb851eb852
 
-abbrev pub 0·8 : Float
-0·8 = bits 0x3fe999999999999a
-
 abbrev pub 0·85 : Float
 0·85 = bits 0x3feb333333333333
 
@@ -80,7 +77,3 @@ LOW-REYNOLDS = 10000·0
 
 abbrev pub LOW-REYNOLDS-FRICTION : Float
 LOW-REYNOLDS-FRICTION = 0·0148
-
--- the top of the subsonic region (Table 3.1)
-abbrev pub SUBSONIC-MACH-LIMIT : Float
-SUBSONIC-MACH-LIMIT = 0·8

@@ -4,7 +4,7 @@ use mathlib.Core.Path.{_≡_, refl}
 use mathlib.Core.List.{List, [], _∷_, map}
 use lib.Ieee.{Float, round, ofBits}
 use Rattle.elementary.specs.Constants.{stored, nearest}
-use Rattle.drag.specs.Constants.{3·0, 40·0, 51·0, 10000·0, 0·0148, 0·032, 0·035, 0·1, 0·12, 0·13, 0·15, 0·166, 0·18, 0·2, 0·25, 0·58, 0·76, 0·8, 0·85, 1·5, 1·84, 5·6, 1·039, π/2}
+use Rattle.drag.specs.Constants.{3·0, 40·0, 51·0, 10000·0, 0·0148, 0·032, 0·035, 0·1, 0·12, 0·13, 0·15, 0·166, 0·18, 0·2, 0·25, 0·58, 0·76, 0·85, 1·5, 1·84, 5·6, 1·039, π/2}
 
 -- each constant, with the numerator and the denominator of its decimal; π/2 stands by the digits that the Rust's standard library writes.
 abbrev pub decimals : List (Float × ℕ × ℕ)
@@ -26,7 +26,6 @@ decimals =
     ∷ (0·25, 25, 100)
     ∷ (0·58, 58, 100)
     ∷ (0·76, 76, 100)
-    ∷ (0·8, 8, 10)
     ∷ (0·85, 85, 100)
     ∷ (1·5, 15, 10)
     ∷ (1·84, 184, 100)

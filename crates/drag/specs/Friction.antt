@@ -1,25 +1,28 @@
 -- Skin friction (Niskanen 2009, eq. 3.78 to 3.85), as drag.rs computes it: one rounding an operation, in the order written.
 -- R is the Reynolds number, k the relative roughness R_s/L, M the Mach number.
+use mathlib.Core.Path.{_≡_, refl}
 use mathlib.Core.Bool.{Bool, true, false, cond, _&&_}
-use lib.Ieee.{Float, ne, neg}
+use lib.Ieee.{Float, neg}
 use lib.Ieee.Scale.{finite}
 use Rattle.elementary.specs.Arithmetic.{_⊕_, _⊖_, _⊗_, _⊘_, _≺_, _≼_}
 use Rattle.elementary.specs.Steps.{LN, POW}
+use Rattle.elementary.specs.Tests.{maxOf}
 use Rattle.aero_error.specs.declared.Check.{Check}
 use Rattle.aero_error.specs.declared.Coefficient.{Coefficient}
-use Rattle.aero_error.specs.declared.Coefficient.the-variants.{Value, Refused}
+use Rattle.aero_error.specs.declared.Coefficient.the-variants.{Value}
 use Rattle.aero_error.specs.declared.Quantity.the-variants.{Mach, Reynolds, Roughness, BodyFineness}
-use Rattle.aero_error.specs.Checks.{required, dimension, _and-then_, _for-value_}
-use Rattle.drag.specs.declared.Limited.{Limited}
-use Rattle.drag.specs.declared.Limited.the-variants.{Is}
-use Rattle.drag.specs.declared.Limited.the-variants
+use Rattle.aero_error.specs.Checks.{required, dimension, _then_, _and-then_, _for-value_}
+use Rattle.drag.specs.declared.Wall.{Wall}
 use Rattle.elementary.specs.Constants.{0·0, 1·0, 0·5}
 use Rattle.drag.specs.Constants.{51·0, 0·032, 0·1, 0·15, 0·18, 0·2, 0·58, 1·5, 5·6, 1·039, LOW-REYNOLDS, LOW-REYNOLDS-FRICTION}
 
-infixr 20 _for-critical_ _for-limited_
 -- "a Mach number of any speed regime: finite and non-negative"
 unfoldable pub machChecked : Float → Check
 machChecked M = required (finite M && 0·0 ≼ M) Mach M
+
+-- Mach, then Reynolds number
+abbrev pub flowChecked : Float → Float → Check
+flowChecked M R = machChecked M then required (dimension R true) Reynolds R
 
 -- eq. 3.78, and eq. 3.81 below LOW_REYNOLDS
 unfoldable pub turbulentFriction : Float → Float
@@ -27,55 +30,61 @@ turbulentFriction R =
     let d = 1·5 ⊗ LN R ⊖ 5·6 in
     cond (R ≺ LOW-REYNOLDS) LOW-REYNOLDS-FRICTION (1·0 ⊘ (d ⊗ d))
 
+-- ---- what a roughness alone decides
+
 -- eq. 3.79
 unfoldable pub criticalReynolds : Float → Coefficient
 criticalReynolds k =
     required (dimension k true) Roughness k and-then
     Value (51·0 ⊗ POW k (neg 1·039))
 
--- `critical?` and `limited?`, where the answer is of another type
-abbrev pub _for-critical_ : Coefficient → (Float → Limited) → Limited
-Value critical for-critical rest = rest critical
-Refused refusal for-critical rest = the-variants.Refused refusal
+-- eq. 3.80
+unfoldable pub limitedFriction : Float → Float
+limitedFriction k = 0·032 ⊗ POW k 0·2
 
-abbrev pub _for-limited_ : Limited → (Bool → Coefficient) → Coefficient
-Is limited for-limited rest = rest limited
-the-variants.Refused refusal for-limited rest = Refused refusal
+abbrev pub wallOf : Float → Wall
+wallOf k = record { critical = criticalReynolds k; limited = limitedFriction k }
 
--- "Roughness is looked at only from Reynolds 10000 up."
-unfoldable pub roughnessLimited : Float → Float → Limited
-roughnessLimited R k =
+-- "Roughness is looked at only from Reynolds 10000 up", where it limits from the critical number on: what is made of whether it limits, and of the friction
+-- that it limits
+abbrev pub onWall : Wall → Float → (Bool → Float → Float) → Coefficient
+onWall wall R friction =
     cond (LOW-REYNOLDS ≼ R)
-    (criticalReynolds k for-critical λ critical. Is (critical ≼ R))
-    (Is false)
+    (wall .critical for-value λ critical. Value (friction (critical ≼ R) (wall .limited)))
+    (Value (friction false (wall .limited)))
 
--- eq. 3.81, with eq. 3.80 where the roughness limits
+-- ---- the friction
+
+-- eq. 3.81: the limited friction where the roughness limits, else the turbulent one
+unfoldable pub incompressible : Bool → Float → Float → Float
+incompressible limited rough R = cond limited rough (turbulentFriction R)
+
 unfoldable pub incompressibleSkinFriction : Float → Float → Coefficient
 incompressibleSkinFriction R k =
     required (dimension R true) Reynolds R and-then
-    roughnessLimited R k for-limited λ limited.
-    cond limited (Value (0·032 ⊗ POW k 0·2)) (Value (turbulentFriction R))
+    onWall (wallOf k) R λ limited rough. incompressible limited rough R
 
--- Rust's `max`: the other one where one is a NaN. Of two zeros of unlike sign Rust leaves open which it is; here it is the first.
--- The use below meets neither: both numbers are +0 or more there.
-unfoldable pub maxOf : Float → Float → Float
-maxOf a b = cond (a ≺ b) b (cond (ne a a) b a)
-
--- from the incompressible cf: eq. 3.82 below Mach 1; from Mach 1 eq. 3.83, and eq. 3.84 where the roughness limits, but never below the turbulent value
-unfoldable pub compressible : Float → Float → Float → Float → Coefficient
-compressible R k M cf =
+-- eq. 3.82 below Mach 1; from Mach 1 eq. 3.83, and eq. 3.84 where the roughness limits, but never below the turbulent value
+unfoldable pub compressible : Bool → Float → Float → Float → Float
+compressible limited rough R M =
     let m2 = M ⊗ M in
     let turbulent = turbulentFriction R ⊘ POW (1·0 ⊕ 0·15 ⊗ m2) 0·58 in
     cond (M ≺ 1·0)
-    (Value (cf ⊗ (1·0 ⊖ 0·1 ⊗ m2)))
-    (roughnessLimited R k for-limited λ limited.
-    cond limited (Value (maxOf (cf ⊘ (1·0 ⊕ 0·18 ⊗ m2)) turbulent)) (Value turbulent))
+    (incompressible limited rough R ⊗ (1·0 ⊖ 0·1 ⊗ m2))
+    (cond limited (maxOf (rough ⊘ (1·0 ⊕ 0·18 ⊗ m2)) turbulent) turbulent)
+
+unfoldable pub frictionOn : Wall → Float → Float → Coefficient
+frictionOn wall R M =
+    flowChecked M R and-then
+    onWall wall R λ limited rough. compressible limited rough R M
 
 unfoldable pub skinFrictionCoefficient : Float → Float → Float → Coefficient
-skinFrictionCoefficient R k M =
-    machChecked M and-then
-    incompressibleSkinFriction R k for-value
-    compressible R k M
+skinFrictionCoefficient R k M = frictionOn (wallOf k) R M
+
+-- a wall gives the friction of its roughness
+pub on-wall : (k R M : Float) → frictionOn (wallOf k) R M ≡ skinFrictionCoefficient R k M
+unfolding skinFrictionCoefficient
+on-wall k R M = refl
 
 -- eq. 3.85, with f_B the body's length over its largest diameter
 unfoldable pub bodyFrictionFormFactor : Float → Coefficient

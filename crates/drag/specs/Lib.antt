@@ -1,4 +1,4 @@
--- What the contracts of drag cite: its constants, and a definition for each of its functions.
+-- What the contracts of drag cite: its constants, and a definition for each of its functions; `Walls` has the code's shorter way to a friction.
 pub mod Constants
 pub mod Decimals
 pub mod Friction

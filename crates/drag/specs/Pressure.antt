@@ -4,12 +4,13 @@ use lib.Ieee.{Float}
 use lib.Ieee.Scale.{finite}
 use Rattle.elementary.specs.Arithmetic.{_⊕_, _⊖_, _⊗_, _⊘_, _≺_, _≼_}
 use Rattle.elementary.specs.Steps.{SIN}
+use Rattle.elementary.specs.Tests.{between}
 use Rattle.aero_error.specs.declared.Coefficient.{Coefficient}
 use Rattle.aero_error.specs.declared.Coefficient.the-variants.{Value}
 use Rattle.aero_error.specs.declared.Quantity.the-variants.{JointAngle, BoattailLength, BoattailAft, BoattailFore}
-use Rattle.aero_error.specs.Checks.{required, dimension, between, _and-then_, _for-value_}
-use Rattle.elementary.specs.Constants.{0·0, 1·0, 0·5}
-use Rattle.drag.specs.Constants.{3·0, 40·0, 0·035, 0·12, 0·13, 0·166, 0·25, 0·76, 0·8, 0·85, 1·84, π/2}
+use Rattle.aero_error.specs.Checks.{required, dimension, _then_, _and-then_, _for-value_}
+use Rattle.elementary.specs.Constants.{0·0, 0·5, 0·8, 1·0}
+use Rattle.drag.specs.Constants.{3·0, 40·0, 0·035, 0·12, 0·13, 0·166, 0·25, 0·76, 0·85, 1·84, π/2}
 use Rattle.drag.specs.Friction.{machChecked}
 
 -- eq. B.1 at a Mach number already checked
@@ -28,11 +29,12 @@ stagnationPressureRatio M = machChecked M and-then Value (stagnationRatio M)
 unfoldable pub stagnationDragCoefficient : Float → Coefficient
 stagnationDragCoefficient M = stagnationPressureRatio M for-value λ ratio. Value (0·85 ⊗ ratio)
 
--- eq. 3.94
+-- eq. 3.94, and at a Mach number already checked
+unfoldable pub baseDrag : Float → Float
+baseDrag M = cond (M ≺ 1·0) (0·12 ⊕ 0·13 ⊗ M ⊗ M) (0·25 ⊘ M)
+
 unfoldable pub baseDragCoefficient : Float → Coefficient
-baseDragCoefficient M =
-    machChecked M and-then
-    cond (M ≺ 1·0) (Value (0·12 ⊕ 0·13 ⊗ M ⊗ M)) (Value (0·25 ⊘ M))
+baseDragCoefficient M = machChecked M and-then Value (baseDrag M)
 
 -- eq. 3.86, with φ the joint angle
 unfoldable pub jointPressureDragCoefficient : Float → Coefficient
@@ -47,7 +49,7 @@ boattailShare γ = cond (γ ≼ 1·0) 1·0 (cond (γ ≺ 3·0) (0·5 ⊗ (3·0 �
 -- of the length l, the fore diameter d₁ and the aft diameter d₂, in the Rust's order of tests
 unfoldable pub boattailFactor : Float → Float → Float → Coefficient
 boattailFactor l d₁ d₂ =
-    required (dimension l true) BoattailLength l and-then
-    required (dimension d₂ true) BoattailAft d₂ and-then
-    required (finite d₁ && d₂ ≺ d₁) BoattailFore d₁ and-then
-    Value (boattailShare (l ⊘ (d₁ ⊖ d₂)))
+    (required (dimension l true) BoattailLength l
+    then required (dimension d₂ true) BoattailAft d₂
+    then required (finite d₁ && d₂ ≺ d₁) BoattailFore d₁)
+    and-then Value (boattailShare (l ⊘ (d₁ ⊖ d₂)))

@@ -1,93 +1,56 @@
--- Skin friction (specs/Friction) on a wall of one roughness k, where what k alone decides is worked out once. `on-wall` shows that the answer is the
--- same at every Reynolds and Mach number, refusals too.
-use mathlib.Core.Path.{_≡_, refl}
+-- A wall worked out only as far as one Reynolds number asks for it, as the code does (specs/Friction has what it gives). `wall-at` says that every friction
+-- that reads the limited value only where the roughness limits comes out the same.
+use mathlib.Core.Path.{_≡_, refl, ap}
 use mathlib.Core.Bool.{Bool, true, false, cond}
 use lib.Ieee.{Float}
-use Rattle.elementary.specs.Arithmetic.{_⊕_, _⊖_, _⊗_, _⊘_, _≺_, _≼_}
-use Rattle.elementary.specs.Steps.{POW}
-use Rattle.elementary.specs.Constants.{0·0, 1·0}
-use Rattle.aero_error.specs.declared.Check.{Check}
-use Rattle.aero_error.specs.declared.Check.the-variants.{Passed, Failed}
+use Rattle.elementary.specs.Arithmetic.{_≼_}
+use Rattle.elementary.specs.Constants.{0·0}
 use Rattle.aero_error.specs.declared.Coefficient.{Coefficient}
-use Rattle.aero_error.specs.declared.Coefficient.the-variants.{Value}
-use Rattle.aero_error.specs.declared.Quantity.the-variants.{Reynolds}
-use Rattle.aero_error.specs.Checks.{required, dimension, _and-then_, _for-value_}
-use Rattle.drag.specs.declared.Limited.{Limited}
-use Rattle.drag.specs.declared.Limited.the-variants.{Is, Refused}
+use Rattle.aero_error.specs.declared.Coefficient.the-variants.{Value, Refused}
+use Rattle.aero_error.specs.Checks.{_and-then_, _for-value_}
 use Rattle.drag.specs.declared.Wall.{Wall}
-use Rattle.drag.specs.Constants.{0·032, 0·1, 0·15, 0·18, 0·2, 0·58, LOW-REYNOLDS}
-use Rattle.drag.specs.Friction.{machChecked, turbulentFriction, criticalReynolds, roughnessLimited, incompressibleSkinFriction, maxOf, compressible, skinFrictionCoefficient, _for-critical_, _for-limited_}
+use Rattle.drag.specs.Constants.{LOW-REYNOLDS}
+use Rattle.drag.specs.Friction.{flowChecked, criticalReynolds, limitedFriction, wallOf, onWall, incompressible, compressible, frictionOn, skinFrictionCoefficient}
 
--- limited from the critical Reynolds number up, or its refusal
-abbrev pub limitedFrom : Coefficient → Float → Limited
-limitedFrom critical R = critical for-critical λ at. Is (at ≼ R)
+-- eq. 3.80 where the roughness limits at R
+abbrev pub limitedFrom : Coefficient → Float → Float → Float
+limitedFrom (Value at) R k = cond (at ≼ R) (limitedFriction k) 0·0
+limitedFrom (Refused refusal) R k = 0·0
 
--- eq. 3.80
-abbrev pub limitedFriction : Float → Float
-limitedFriction k = 0·032 ⊗ POW k 0·2
-
-abbrev pub wallOf : Float → Wall
-wallOf k = record { critical = criticalReynolds k; limited = limitedFriction k }
-
-unfoldable pub limitedOn : Wall → Float → Limited
-limitedOn wall R =
+-- below LOW_REYNOLDS nobody reads either
+unfoldable pub wallAt : Float → Float → Wall
+wallAt R k =
     cond (LOW-REYNOLDS ≼ R)
-    (limitedFrom (wall .critical) R)
-    (Is false)
+    (record { critical = criticalReynolds k; limited = limitedFrom (criticalReynolds k) R k })
+    (record { critical = Value 0·0; limited = 0·0 })
 
-unfoldable pub frictionWhere : Bool → Float → Float → Float → Float
-frictionWhere limited rough R M =
-    let m2 = M ⊗ M in
-    let turbulent = turbulentFriction R ⊘ POW (1·0 ⊕ 0·15 ⊗ m2) 0·58 in
-    cond (M ≺ 1·0)
-    (cond limited (rough ⊗ (1·0 ⊖ 0·1 ⊗ m2)) (turbulentFriction R ⊗ (1·0 ⊖ 0·1 ⊗ m2)))
-    (cond limited (maxOf (rough ⊘ (1·0 ⊕ 0·18 ⊗ m2)) turbulent) turbulent)
+module _ (k R : Float) (friction : Bool → Float → Float) (unread : (x y : Float) → friction false x ≡ friction false y) where
+  where-limited : (limited : Bool) → friction limited (cond limited (limitedFriction k) 0·0) ≡ friction limited (limitedFriction k)
+  where-limited true = refl
+  where-limited false = unread 0·0 (limitedFriction k)
 
-unfoldable pub frictionOn : Wall → Float → Float → Coefficient
-frictionOn wall R M =
-    machChecked M and-then
-    (required (dimension R true) Reynolds R and-then
-    limitedOn wall R for-limited λ limited. Value (frictionWhere limited (wall .limited) R M))
+  from-critical : (critical : Coefficient)
+      → (critical for-value λ at. Value (friction (at ≼ R) (limitedFrom critical R k))) ≡ (critical for-value λ at. Value (friction (at ≼ R) (limitedFriction k)))
+  from-critical (Value at) = ap Value (where-limited (at ≼ R))
+  from-critical (Refused refusal) = refl
 
--- on a wall the roughness limits where it limits by itself
-pub limited-same : (k R : Float) → limitedOn (wallOf k) R ≡ roughnessLimited R k
-unfolding limitedOn roughnessLimited
-limited-same k R = refl
+  -- the definition at a wall, with the test of the Reynolds number set apart
+  unfoldable at : Bool → Wall → Coefficient
+  at asked wall = cond asked (wall .critical for-value λ critical. Value (friction (critical ≼ R) (wall .limited))) (Value (friction false (wall .limited)))
 
--- the limited friction counts only where the roughness limits
-pub rough-where : (limited : Bool) (rough R M : Float) → frictionWhere limited (cond limited rough 0·0) R M ≡ frictionWhere limited rough R M
-unfolding frictionWhere
-rough-where true rough R M = refl
-rough-where false rough R M = refl
+  by-test : (asked : Bool)
+      → at asked (cond asked (record { critical = criticalReynolds k; limited = limitedFrom (criticalReynolds k) R k }) (record { critical = Value 0·0; limited = 0·0 })) ≡ at asked (wallOf k)
+  unfolding at
+  by-test true = from-critical (criticalReynolds k)
+  by-test false = ap Value (unread 0·0 (limitedFriction k))
 
--- a wall gives the friction of its roughness
-pub on-wall : (k R M : Float) → frictionOn (wallOf k) R M ≡ skinFrictionCoefficient R k M
-unfolding frictionOn frictionWhere limitedOn skinFrictionCoefficient incompressibleSkinFriction compressible roughnessLimited
-on-wall k R M = by-check (machChecked M) (required (dimension R true) Reynolds R) (roughnessLimited R k)
-  where
-    -- the definitions, with the two checks and the roughness's answer set apart
-    one : Check → Check → Limited → Coefficient
-    one m r l = m and-then (r and-then l for-limited λ limited. Value (frictionWhere limited (0·032 ⊗ POW k 0·2) R M))
+  pub wall-at : onWall (wallAt R k) R friction ≡ onWall (wallOf k) R friction
+  unfolding at wallAt
+  wall-at = by-test (LOW-REYNOLDS ≼ R)
 
-    two : Check → Check → Limited → Coefficient
-    two m r l =
-        m and-then
-        (r and-then l for-limited λ limited. cond limited (Value (0·032 ⊗ POW k 0·2)) (Value (turbulentFriction R))) for-value λ cf.
-        cond (M ≺ 1·0)
-        (Value (cf ⊗ (1·0 ⊖ 0·1 ⊗ (M ⊗ M))))
-        (l for-limited λ limited.
-        cond limited (Value (maxOf (cf ⊘ (1·0 ⊕ 0·18 ⊗ (M ⊗ M))) (turbulentFriction R ⊘ POW (1·0 ⊕ 0·15 ⊗ (M ⊗ M)) 0·58))) (Value (turbulentFriction R ⊘ POW (1·0 ⊕ 0·15 ⊗ (M ⊗ M)) 0·58)))
-
-    by-mach : (limited slow : Bool) (rough turb : Float)
-        → Value (cond slow (cond limited (rough ⊗ (1·0 ⊖ 0·1 ⊗ (M ⊗ M))) (turbulentFriction R ⊗ (1·0 ⊖ 0·1 ⊗ (M ⊗ M)))) (cond limited (maxOf (rough ⊘ (1·0 ⊕ 0·18 ⊗ (M ⊗ M))) turb) turb))
-        ≡ (cond limited (Value rough) (Value (turbulentFriction R)) for-value λ cf. cond slow (Value (cf ⊗ (1·0 ⊖ 0·1 ⊗ (M ⊗ M)))) (cond limited (Value (maxOf (cf ⊘ (1·0 ⊕ 0·18 ⊗ (M ⊗ M))) turb)) (Value turb)))
-    by-mach true true rough turb = refl
-    by-mach true false rough turb = refl
-    by-mach false true rough turb = refl
-    by-mach false false rough turb = refl
-
-    by-check : (m r : Check) (l : Limited) → one m r l ≡ two m r l
-    by-check (Failed e) r l = refl
-    by-check Passed (Failed e) l = refl
-    by-check Passed Passed (Refused e) = refl
-    by-check Passed Passed (Is limited) = by-mach limited (M ≺ 1·0) (0·032 ⊗ POW k 0·2) (turbulentFriction R ⊘ POW (1·0 ⊕ 0·15 ⊗ (M ⊗ M)) 0·58)
+-- the friction reads it so
+pub friction-at : (R k M : Float) → frictionOn (wallAt R k) R M ≡ skinFrictionCoefficient R k M
+unfolding frictionOn skinFrictionCoefficient compressible incompressible
+friction-at R k M =
+    ap (λ (answer : Coefficient). flowChecked M R and-then answer)
+    (wall-at k R (λ limited rough. compressible limited rough R M) (λ x y. refl))

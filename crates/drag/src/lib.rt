@@ -1,19 +1,19 @@
 // Skin friction, stagnation pressure, base drag, joint drag and the boattail rule (drag.rs): the terms of Niskanen's drag buildup
 // as functions of their inputs, with the Rust's names, order of tests and order of operations. Each answers the value or the refusal.
 ghost use mathlib.Core.Path.{_≡_};
-ghost use Rattle.drag.specs.Friction.{machChecked, turbulentFriction, criticalReynolds, roughnessLimited, incompressibleSkinFriction, maxOf, skinFrictionCoefficient, bodyFrictionFormFactor};
-ghost use Rattle.drag.specs.Walls.{limitedFrom, limitedFriction, wallOf, limitedOn, frictionWhere, frictionOn};
-ghost use mathlib.Core.Bool.{cond};
-ghost use Rattle.elementary.specs.Constants.{0·0};
-ghost use Rattle.drag.specs.Pressure.{stagnationRatio, stagnationPressureRatio, stagnationDragCoefficient, baseDragCoefficient, jointPressureDragCoefficient, boattailShare, boattailFactor};
-use aero_error::AeroError;
+ghost use Rattle.drag.specs.Friction.{machChecked, flowChecked, turbulentFriction, criticalReynolds, limitedFriction, wallOf, incompressible as incompressibleOf, incompressibleSkinFriction, compressible as compressibleOf, frictionOn, skinFrictionCoefficient, bodyFrictionFormFactor};
+ghost use Rattle.drag.specs.Walls.{limitedFrom, wallAt};
+ghost use Rattle.drag.specs.Pressure.{stagnationRatio, stagnationPressureRatio, stagnationDragCoefficient, baseDrag, baseDragCoefficient, jointPressureDragCoefficient, boattailShare, boattailFactor};
 use aero_error::Check;
 use aero_error::Coefficient;
 use aero_error::Quantity;
 use aero_error::check_dimension;
-use aero_error::is_between;
-use aero_error::is_finite;
+use aero_error::gated;
 use aero_error::require;
+use aero_error::then;
+use elementary::is_between;
+use elementary::is_finite;
+use elementary::max;
 
 // Reynolds number below which the friction formulas no longer hold (Niskanen 2009 p. 44).
 pub const LOW_REYNOLDS: f64 = 1.0e4;
@@ -21,17 +21,8 @@ pub const LOW_REYNOLDS: f64 = 1.0e4;
 // The skin-friction coefficient below LOW_REYNOLDS (eq. 3.81).
 pub const LOW_REYNOLDS_FRICTION: f64 = 1.48e-2;
 
-// The top of the subsonic region, where the transonic method starts (Table 3.1, p. 47).
-pub const SUBSONIC_MACH_LIMIT: f64 = 0.8;
-
-// A quarter turn, the bits 3ff921fb54442d18 of document 01.
+// A quarter turn, the bits 3ff921fb54442d18 (docs/REFERENCE.md, Friction and base).
 pub const FRAC_PI_2: f64 = 1.57079632679489661923132169163975144;
-
-// Whether eq. 3.81 takes the roughness-limited branch, or the refusal of the roughness that it had to look at.
-enum Limited {
-    Is(bool),
-    Refused(AeroError),
-}
 
 // A Mach number of any speed regime: finite and not negative.
 pub fn check_mach_any(mach: f64) -> Check
@@ -39,6 +30,25 @@ pub fn check_mach_any(mach: f64) -> Check
 {
     let ok = is_finite(mach) && mach >= 0.0;
     require(ok, Quantity::Mach, mach)
+}
+
+// Mach, then Reynolds number: the flow that a friction is asked for.
+pub fn check_flow(mach: f64, reynolds: f64) -> Check
+    ensures { λ r. ⌜ r ≡ flowChecked mach reynolds ⌝ }
+{
+    then(
+        check_mach_any(mach),
+        check_dimension(Quantity::Reynolds, reynolds, true),
+    )
+}
+
+// ---- skin friction
+
+// What a roughness alone decides of the friction: the critical Reynolds number (eq. 3.79), from which on it limits the friction, and
+// the friction that it limits (eq. 3.80). Worked out once, it serves every Reynolds and Mach number.
+pub struct Wall {
+    pub critical: Coefficient,
+    pub limited: f64,
 }
 
 // Smooth fully turbulent friction (eq. 3.78), held below LOW_REYNOLDS (eq. 3.81).
@@ -63,24 +73,51 @@ pub fn critical_reynolds(relative_roughness: f64) -> Coefficient
     Coefficient::Value(51.0 * elementary::powf(relative_roughness, -1.039))
 }
 
-// Limited from the critical Reynolds number up, or its refusal.
-fn limited_from(critical: Coefficient, reynolds: f64) -> Limited
-    ensures { λ r. ⌜ r ≡ limitedFrom critical reynolds ⌝ }
+// The friction that a roughness limits (eq. 3.80).
+fn limited_friction(relative_roughness: f64) -> f64
+    ensures { λ r. ⌜ r ≡ limitedFriction «relative_roughness» ⌝ }
 {
-    match critical {
-        Coefficient::Refused(refusal) => Limited::Refused(refusal),
-        Coefficient::Value(at) => Limited::Is(reynolds >= at),
+    0.032 * elementary::powf(relative_roughness, 0.2)
+}
+
+pub fn wall_of(relative_roughness: f64) -> Wall
+    ensures { λ r. ⌜ r ≡ wallOf «relative_roughness» ⌝ }
+{
+    let critical = critical_reynolds(relative_roughness);
+    Wall {
+        critical,
+        limited: limited_friction(relative_roughness),
     }
 }
 
-// Never below LOW_REYNOLDS, where the roughness isn't looked at; from there on, from the critical Reynolds number up.
-fn roughness_limited(reynolds: f64, relative_roughness: f64) -> Limited
-    ensures { λ r. ⌜ r ≡ roughnessLimited reynolds «relative_roughness» ⌝ }
+// Eq. 3.80 where the roughness limits at this Reynolds number, and otherwise 0, which nobody reads.
+fn limited_from(critical: Coefficient, reynolds: f64, relative_roughness: f64) -> f64
+    ensures { λ r. ⌜ r ≡ limitedFrom critical reynolds «relative_roughness» ⌝ }
+{
+    match critical {
+        Coefficient::Refused(_) => 0.0,
+        Coefficient::Value(at) => {
+            if reynolds >= at {
+                limited_friction(relative_roughness)
+            } else {
+                0.0
+            }
+        }
+    }
+}
+
+// The wall as far as a Reynolds number asks for it: below LOW_REYNOLDS the roughness isn't looked at.
+fn wall_at(reynolds: f64, relative_roughness: f64) -> Wall
+    ensures { λ r. ⌜ r ≡ wallAt reynolds «relative_roughness» ⌝ }
 {
     if reynolds >= LOW_REYNOLDS {
-        limited_from(critical_reynolds(relative_roughness), reynolds)
-    } else {
-        Limited::Is(false)
+        let critical = critical_reynolds(relative_roughness);
+        let limited = limited_from(critical, reynolds, relative_roughness);
+        return Wall { critical, limited };
+    }
+    Wall {
+        critical: Coefficient::Value(0.0),
+        limited: 0.0,
     }
 }
 
@@ -91,72 +128,37 @@ pub fn incompressible_skin_friction(reynolds: f64, relative_roughness: f64) -> C
     if let Check::Failed(refusal) = check_dimension(Quantity::Reynolds, reynolds, true) {
         return Coefficient::Refused(refusal);
     }
-    match roughness_limited(reynolds, relative_roughness) {
-        Limited::Refused(refusal) => Coefficient::Refused(refusal),
-        Limited::Is(limited) => {
-            if limited {
-                Coefficient::Value(limited_friction(true, relative_roughness))
-            } else {
-                Coefficient::Value(turbulent_friction(reynolds))
-            }
-        }
-    }
-}
-
-// Rust's f64::max: the other one where one is a NaN. Of two zeros of unlike sign Rust leaves open which it is; here it is the first.
-pub fn max(a: f64, b: f64) -> f64
-    ensures { λ r. ⌜ r ≡ maxOf a b ⌝ }
-{
-    if a < b {
-        b
-    } else if a != a {
-        b
-    } else {
-        a
-    }
-}
-
-// What a roughness alone decides of the friction: the critical Reynolds number (eq. 3.79), and the friction that it limits
-// (eq. 3.80). Worked out once, it serves every Reynolds and Mach number.
-pub struct Wall {
-    pub critical: Coefficient,
-    pub limited: f64,
-}
-
-pub fn wall_of(relative_roughness: f64) -> Wall
-    ensures { λ r. ⌜ r ≡ wallOf «relative_roughness» ⌝ }
-{
-    let critical = critical_reynolds(relative_roughness);
-    Wall {
-        critical,
-        limited: limited_friction(true, relative_roughness),
-    }
-}
-
-// `roughness_limited` on a wall.
-fn limited_on(wall: Wall, reynolds: f64) -> Limited
-    ensures { λ r. ⌜ r ≡ limitedOn wall reynolds ⌝ }
-{
     if LOW_REYNOLDS <= reynolds {
-        let critical = wall.critical;
-        limited_from(critical, reynolds)
+        let answer = critical_reynolds(relative_roughness);
+        let Coefficient::Value(critical) = answer else {
+            return answer;
+        };
+        if reynolds >= critical {
+            return Coefficient::Value(limited_friction(relative_roughness));
+        }
+        return Coefficient::Value(turbulent_friction(reynolds));
+    }
+    Coefficient::Value(turbulent_friction(reynolds))
+}
+
+// Eq. 3.81, once it is known whether the roughness limits.
+fn incompressible(limited: bool, rough: f64, reynolds: f64) -> f64
+    ensures { λ r. ⌜ r ≡ incompressibleOf limited rough reynolds ⌝ }
+{
+    if limited {
+        rough
     } else {
-        Limited::Is(false)
+        turbulent_friction(reynolds)
     }
 }
 
-// The friction on a wall once it is known whether its roughness limits it (eq. 3.81 to 3.84).
-fn friction_where(limited: bool, rough: f64, reynolds: f64, mach: f64) -> f64
-    ensures { λ r. ⌜ r ≡ frictionWhere limited rough reynolds mach ⌝ }
+// The corrections for compressibility (eq. 3.82 to 3.84).
+fn compressible(limited: bool, rough: f64, reynolds: f64, mach: f64) -> f64
+    ensures { λ r. ⌜ r ≡ compressibleOf limited rough reynolds mach ⌝ }
 {
     let m2 = mach * mach;
     if mach < 1.0 {
-        let slowed = 1.0 - 0.1 * m2;
-        return if limited {
-            rough * slowed
-        } else {
-            turbulent_friction(reynolds) * slowed
-        };
+        return incompressible(limited, rough, reynolds) * (1.0 - 0.1 * m2);
     }
     let turbulent = turbulent_friction(reynolds) / elementary::powf(1.0 + 0.15 * m2, 0.58);
     if limited {
@@ -166,52 +168,29 @@ fn friction_where(limited: bool, rough: f64, reynolds: f64, mach: f64) -> f64
     }
 }
 
-// `skin_friction_coefficient` on a wall.
+// Skin friction with compressibility on a wall.
 pub fn friction_on(wall: Wall, reynolds: f64, mach: f64) -> Coefficient
     ensures { λ r. ⌜ r ≡ frictionOn wall reynolds mach ⌝ }
 {
-    if let Check::Failed(refusal) = check_mach_any(mach) {
+    if let Check::Failed(refusal) = check_flow(mach, reynolds) {
         return Coefficient::Refused(refusal);
     }
-    if let Check::Failed(refusal) = check_dimension(Quantity::Reynolds, reynolds, true) {
-        return Coefficient::Refused(refusal);
+    if LOW_REYNOLDS <= reynolds {
+        let answer = wall.critical;
+        let Coefficient::Value(critical) = answer else {
+            return answer;
+        };
+        let limited = reynolds >= critical;
+        return Coefficient::Value(compressible(limited, wall.limited, reynolds, mach));
     }
-    match limited_on(wall, reynolds) {
-        Limited::Refused(refusal) => Coefficient::Refused(refusal),
-        Limited::Is(limited) => {
-            Coefficient::Value(friction_where(limited, wall.limited, reynolds, mach))
-        }
-    }
-}
-
-// The friction that a roughness limits (eq. 3.80), asked for only where it does.
-fn limited_friction(limited: bool, relative_roughness: f64) -> f64
-    ensures { λ r. ⌜ r ≡ cond limited (limitedFriction «relative_roughness») 0·0 ⌝ }
-{
-    if limited {
-        0.032 * elementary::powf(relative_roughness, 0.2)
-    } else {
-        0.0
-    }
+    Coefficient::Value(compressible(false, wall.limited, reynolds, mach))
 }
 
 // Skin friction with compressibility (eq. 3.82 to 3.84).
 pub fn skin_friction_coefficient(reynolds: f64, relative_roughness: f64, mach: f64) -> Coefficient
     ensures { λ r. ⌜ r ≡ skinFrictionCoefficient reynolds «relative_roughness» mach ⌝ }
 {
-    if let Check::Failed(refusal) = check_mach_any(mach) {
-        return Coefficient::Refused(refusal);
-    }
-    if let Check::Failed(refusal) = check_dimension(Quantity::Reynolds, reynolds, true) {
-        return Coefficient::Refused(refusal);
-    }
-    match roughness_limited(reynolds, relative_roughness) {
-        Limited::Refused(refusal) => Coefficient::Refused(refusal),
-        Limited::Is(limited) => {
-            let rough = limited_friction(limited, relative_roughness);
-            Coefficient::Value(friction_where(limited, rough, reynolds, mach))
-        }
-    }
+    friction_on(wall_at(reynolds, relative_roughness), reynolds, mach)
 }
 
 // Body friction form factor 1 + 1/(2 f_B) (eq. 3.85).
@@ -224,14 +203,13 @@ pub fn body_friction_form_factor(fineness_ratio: f64) -> Coefficient
     Coefficient::Value(1.0 + 0.5 / fineness_ratio)
 }
 
+// ---- pressure drag
+
 // Stagnation-pressure ratio q_stag/q (eq. B.1).
 pub fn stagnation_pressure_ratio(mach: f64) -> Coefficient
     ensures { λ r. ⌜ r ≡ stagnationPressureRatio mach ⌝ }
 {
-    if let Check::Failed(refusal) = check_mach_any(mach) {
-        return Coefficient::Refused(refusal);
-    }
-    Coefficient::Value(stagnation_ratio(mach))
+    gated(check_mach_any(mach), stagnation_ratio(mach))
 }
 
 // The same at a Mach number already checked.
@@ -265,10 +243,17 @@ pub fn base_drag_coefficient(mach: f64) -> Coefficient
     if let Check::Failed(refusal) = check_mach_any(mach) {
         return Coefficient::Refused(refusal);
     }
+    Coefficient::Value(base_drag(mach))
+}
+
+// The same at a Mach number already checked.
+fn base_drag(mach: f64) -> f64
+    ensures { λ r. ⌜ r ≡ baseDrag mach ⌝ }
+{
     if mach < 1.0 {
-        Coefficient::Value(0.12 + 0.13 * mach * mach)
+        0.12 + 0.13 * mach * mach
     } else {
-        Coefficient::Value(0.25 / mach)
+        0.25 / mach
     }
 }
 
@@ -301,16 +286,16 @@ fn boattail_share(gamma: f64) -> f64
 pub fn boattail_factor(length_m: f64, fore_diameter_m: f64, aft_diameter_m: f64) -> Coefficient
     ensures { λ r. ⌜ r ≡ boattailFactor «length_m» «fore_diameter_m» «aft_diameter_m» ⌝ }
 {
-    if let Check::Failed(refusal) = check_dimension(Quantity::BoattailLength, length_m, true) {
-        return Coefficient::Refused(refusal);
-    }
-    if let Check::Failed(refusal) = check_dimension(Quantity::BoattailAft, aft_diameter_m, true) {
-        return Coefficient::Refused(refusal);
-    }
     let ok = is_finite(fore_diameter_m) && fore_diameter_m > aft_diameter_m;
-    if let Check::Failed(refusal) = require(ok, Quantity::BoattailFore, fore_diameter_m) {
-        return Coefficient::Refused(refusal);
-    }
-    let gamma = length_m / (fore_diameter_m - aft_diameter_m);
-    Coefficient::Value(boattail_share(gamma))
+    let check = then(
+        check_dimension(Quantity::BoattailLength, length_m, true),
+        then(
+            check_dimension(Quantity::BoattailAft, aft_diameter_m, true),
+            require(ok, Quantity::BoattailFore, fore_diameter_m),
+        ),
+    );
+    gated(
+        check,
+        boattail_share(length_m / (fore_diameter_m - aft_diameter_m)),
+    )
 }

@@ -1,15 +1,14 @@
--- The laws that the proofs of the sheet share.
-pub mod Fill
-pub mod Parts
-pub mod Rows
-pub mod Lay
-pub mod Walks
+pub mod Verdicts
+pub mod Sums
 pub mod Slots
+pub mod RowKinds
+pub mod Taken
+pub mod Overwritten
+pub mod Finish
+pub mod Laying
 pub mod Answers
-pub mod ColumnLaw
-pub mod Lengths
-pub mod ReplaceLaw
-pub mod Untouched
-pub mod Writing
-pub mod Edits
+pub mod OneColumn
+pub mod Changed
+pub mod Duties
+pub mod CallLaws
 pub mod ListsLaw

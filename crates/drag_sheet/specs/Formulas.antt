@@ -1,25 +1,30 @@
--- Document 01's formulas for the rows of a sheet, in their own order of operations. f is a part's fore diameter, the previous part's aft diameter d;
+-- The formulas of docs/REFERENCE.md, Rows, for the cells of a sheet, in their own order of operations. f is a part's fore diameter, the previous part's aft diameter d;
 -- D is the reference diameter, M a Mach number, R a Reynolds number.
 use mathlib.Core.Bool.{cond}
-use mathlib.Core.List.{List, [], _∷_}
+use mathlib.Core.List.{List}
+use Prim.Native.Nat.{ℕ, zero, suc}
+use lib.ListN.{length}
 use lib.Ieee.{Float}
 use Rattle.elementary.specs.Arithmetic.{_⊕_, _⊖_, _⊗_, _⊘_, _≺_}
 use Rattle.elementary.specs.Constants.{0·0}
+use Rattle.aero_error.specs.declared.Check.{Check}
+use Rattle.aero_error.specs.declared.Check.the-variants.{Passed, Failed}
 use Rattle.aero_error.specs.declared.Coefficient.{Coefficient}
 use Rattle.aero_error.specs.declared.Coefficient.the-variants.{Value, Refused}
 use Rattle.aero_error.specs.Checks.{_for-value_}
-use Rattle.drag.specs.Friction.{skinFrictionCoefficient}
+use Rattle.drag.specs.Friction.{skinFrictionCoefficient, bodyFrictionFormFactor}
 use Rattle.drag.specs.Pressure.{baseDragCoefficient, boattailFactor}
-use Rattle.nose_drag.specs.declared.Curve.{Curve}
-use Rattle.nose_drag.specs.declared.Curve.the-variants.{Built, Refused as NotBuilt}
+use Rattle.nose_drag.specs.declared.builder.Curve.{Curve}
+use Rattle.nose_drag.specs.declared.builder.Curve.the-variants.{Built, Refused as NotBuilt}
 use Rattle.nose_drag.specs.Curves.{newCurve, coefficientOf}
-use Rattle.drag_sheet.specs.declared.Part.{Part}
-use Rattle.drag_sheet.specs.declared.Row.{Row}
-use Rattle.drag_sheet.specs.declared.Row.the-variants.{Widening, Narrowing, Level}
-use Rattle.drag_sheet.specs.declared.BodyRow.{BodyRow}
-use Rattle.drag_sheet.specs.declared.BodyRow.the-variants.{Friction, Base}
-use Rattle.drag_sheet.specs.declared.Prepared.{Prepared}
-use Rattle.drag_sheet.specs.declared.Prepared.the-variants.{Ready, Refused as NotReady}
+use Rattle.sheet_data.specs.declared.Part.{Part}
+use Rattle.sheet_data.specs.Contents.{Contents, partAt, foreAt}
+use Rattle.drag_sheet.specs.declared.part.Row.{Row}
+use Rattle.drag_sheet.specs.declared.part.Row.the-variants.{Widening, Narrowing, Level}
+use Rattle.drag_sheet.specs.declared.part.Prepared.{Prepared}
+use Rattle.drag_sheet.specs.declared.part.Prepared.the-variants.{Ready, Refused as NotReady}
+
+-- ---- a part's cell
 
 -- (a×a - b×b)/(D×D)
 abbrev pub areaRatio : Float → Float → Float → Float
@@ -52,23 +57,45 @@ cellOf (Widening curve area) M = scaledBy area (coefficientOf curve M)
 cellOf (Narrowing l f d area) M = scaledBy area (boattailDrag l f d M)
 cellOf Level M = Value 0·0
 
--- a coefficient that the settings' tests have made sure of: never a refusal once they have passed
+-- the same of a row that may not be ready
+abbrev pub cellFrom : Prepared → Float → Coefficient
+cellFrom (Ready row) M = cellOf row M
+cellFrom (NotReady e) M = Refused e
+
+-- whether a row is ready, and whether a cell was made
+abbrev pub readyTest : Prepared → Check
+readyTest (Ready row) = Passed
+readyTest (NotReady e) = Failed e
+
+abbrev pub madeTest : Coefficient → Check
+madeTest (Value v) = Passed
+madeTest (Refused e) = Failed e
+
+-- a coefficient that the tests before have made sure of: never a refusal once they have passed
 abbrev pub valueOf : Coefficient → Float
 valueOf (Value v) = v
 valueOf (Refused e) = 0·0
 
--- the rows of the whole body, a cell at a Mach and a Reynolds number: "(skin friction × form factor) × the sum of w", and
--- "base drag at M × ((last d × last d)/(D×D))"
-abbrev pub bodyCell : BodyRow → Float → Float → Float
-bodyCell (Friction roughness form wetted) M R = valueOf (skinFrictionCoefficient R roughness M) ⊗ form ⊗ wetted
-bodyCell (Base area) M R = valueOf (baseDragCoefficient M) ⊗ area
+-- ---- the cells of the whole body, at a Mach and a Reynolds number
+
+-- +0, plus f 0, plus f 1, .., n of them
+unfoldable pub sumTo : ℕ → (ℕ → Float) → Float
+sumTo zero f = 0·0
+sumTo (suc n) f = sumTo n f ⊕ f n
 
 -- "the sum of w from +0 by place"
-unfoldable pub wettedFrom : Float → List Part → Float
-wettedFrom sum [] = sum
-wettedFrom sum (p ∷ ps) = wettedFrom (sum ⊕ p .«wetted_ratio») ps
+abbrev pub wetted : List Part → Float
+wetted ps = sumTo (length ps) (λ i. partAt ps i .«wetted_ratio»)
 
--- the aft diameter of the last part, d before any
-unfoldable pub lastFrom : Float → List Part → Float
-lastFrom d [] = d
-lastFrom d (p ∷ ps) = lastFrom (p .«aft_diameter») ps
+-- "(skin friction × form factor) × the sum of w"
+unfoldable pub frictionCell : Contents → Float → Float → Float
+frictionCell c M R =
+    let s = c .settings in
+    valueOf (skinFrictionCoefficient R (s .roughness) M) ⊗ valueOf (bodyFrictionFormFactor (s .«body_fineness»)) ⊗ wetted (c .parts)
+
+-- "base drag at M × ((last d × last d)/(D×D)), last d being 0 without parts"
+unfoldable pub baseCell : Contents → Float → Float
+baseCell c M =
+    let last = foreAt (c .parts) (length (c .parts)) in
+    let D = c .settings .«reference_diameter» in
+    valueOf (baseDragCoefficient M) ⊗ (last ⊗ last ⊘ (D ⊗ D))

@@ -1,10 +1,10 @@
--- The definitions of the crate `drag_sheet`: the order of the rows and the formulas of document 01's "The sheet" for each, a sheet built from nothing, the
--- tests in document 01's order, the calls, the model that a list of calls is held against, and the statement over lists.
-pub mod Layout
+-- The definitions of the crate `drag_sheet`: the formulas of a sheet's cells (docs/REFERENCE.md, Rows), a sheet built from nothing, rows written over cells, the calls,
+-- the model that a list of calls is held against, and the statement over lists.
 pub mod Formulas
-pub mod Ready
+pub mod Body
 pub mod Build
-pub mod Tests
+pub mod Writing
 pub mod Calls
+pub mod Edits
 pub mod Model
 pub mod Lists

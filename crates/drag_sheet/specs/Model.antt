@@ -1,37 +1,39 @@
--- The model that a list of calls is held against: document 01's "hand copy". It is fed the calls' arguments and the number of cells lent, and nothing else.
--- It holds the settings with their columns, and the parts in order.
+-- The model that a list of calls is held against: the copy that is kept by hand (docs/REFERENCE.md, Hand copy). It is fed the calls' arguments and the number
+-- of cells lent, and nothing else. It holds contents: the settings with their columns, and the parts in order.
 use mathlib.Core.List.{List, [], _∷_}
 use Prim.Native.Nat.{ℕ}
 use lib.ListN.{length}
 use Rattle.aero_error.specs.declared.Check.{Check}
-use Rattle.aero_error.specs.declared.Check.the-variants.{Passed, Failed}
-use Rattle.drag_sheet.specs.declared.Settings.{Settings}
-use Rattle.drag_sheet.specs.declared.Part.{Part}
-use Rattle.drag_sheet.specs.Calls.{Call, settingsAfter, partsAfter, decision}
-
-pub record Model : Type 0 where
-  pub settings : Settings
-  pub parts : List Part
+use Rattle.aero_error.specs.Checks.{_then_}
+use Rattle.sheet_data.specs.declared.Settings.{Settings}
+use Rattle.sheet_data.specs.Contents.{Contents}
+use Rattle.sheet_data.specs.Tests.{sheetTest}
+use Rattle.drag_sheet.specs.Build.{trial}
+use Rattle.drag_sheet.specs.Writing.{chosen}
+use Rattle.drag_sheet.specs.Calls.{Call, applied, argumentsTest}
 
 -- "an accepted one gives its settings and no parts"
-abbrev pub openedModel : Settings → Model
+abbrev pub openedModel : Settings → Contents
 openedModel s = record { settings = s; parts = [] }
 
--- "Any other call is refused where the order below refuses it with the copy as the sheet given"
-abbrev pub modelDecision : ℕ → Call → Model → Check
-modelDecision lent call m = decision call (m .settings) lent (length (m .parts)) (m .parts)
+-- "Any other call is refused where the order below refuses it with the copy as the sheet given", and "Rows are tried on the copy as the call would leave it":
+-- the same line for every call, all rows of one build of the contents applied
+abbrev pub modelDecision : ℕ → Call → Contents → Check
+modelDecision cells call m =
+    sheetTest (m .settings) cells (length (m .parts)) (m .parts)
+    then argumentsTest call (m .settings) (length (m .parts))
+    then trial (applied call m)
 
 -- "and the copy then stays as it was"
-abbrev pub moved : Check → Call → Model → Model
-moved Passed call m = record { settings = settingsAfter call (m .settings); parts = partsAfter call (m .parts) }
-moved (Failed e) call m = m
+abbrev pub moved : ℕ → Call → Contents → Contents
+moved cells call m = chosen (modelDecision cells call m) m (applied call m)
 
 -- the model after a list of calls
-unfoldable pub modelAfter : ℕ → List Call → Model → Model
-modelAfter lent [] m = m
-modelAfter lent (c ∷ cs) m = modelAfter lent cs (moved (modelDecision lent c m) c m)
+unfoldable pub modelAfter : ℕ → List Call → Contents → Contents
+modelAfter cells [] m = m
+modelAfter cells (c ∷ cs) m = modelAfter cells cs (moved cells c m)
 
 -- its answers, call by call: "accepted, or the refusal's number, with 1's code and value"
-unfoldable pub modelAnswers : ℕ → List Call → Model → List Check
-modelAnswers lent [] m = []
-modelAnswers lent (c ∷ cs) m = modelDecision lent c m ∷ modelAnswers lent cs (moved (modelDecision lent c m) c m)
+unfoldable pub modelAnswers : ℕ → List Call → Contents → List Check
+modelAnswers cells [] m = []
+modelAnswers cells (c ∷ cs) m = modelDecision cells c m ∷ modelAnswers cells cs (moved cells c m)

@@ -1,4 +1,4 @@
--- `splitOf` speaks of a float's value, and the code of its 64 bits: both take the float apart alike. Assumes nothing.
+-- `splitOf` speaks of a float's value, and the code of its 64 bits: both take the float apart alike.
 use mathlib.Core.Path.{_≡_, refl, sym, ap, _∙_, subst, subst₂}
 use mathlib.Core.Logic.{_⊎_, inl, inr}
 use mathlib.Core.Bool.{Bool, true, false, cond, not, _&&_}
@@ -15,8 +15,8 @@ use lib.Ieee.{Float, nan, inf, fin, binary64, up, down, size, fits, isNan, toBit
 use lib.Ieee.Digits.{back, size-lt, size-le, size-reaches}
 use lib.Ieee.Fits.{up-pos, down-pos, and-l, and-r}
 use borrow.Author.Tests.{lt-leb, le-leb, eq-eqb, ne-eqb}
-use Rattle.elementary.specs.declared.Parts.{Parts}
-use Rattle.elementary.specs.declared.Parts.the-variants.{Nan, Infinite, Zero, Finite}
+use Rattle.elementary.specs.declared.split.Parts.{Parts}
+use Rattle.elementary.specs.declared.split.Parts.the-variants.{Nan, Infinite, Zero, Finite}
 use Rattle.elementary.specs.Split.{units, normalised, splitOf, Taken}
 
 -- ---- what the code does with the bits

@@ -1,4 +1,4 @@
--- What is left of a number once a `match` has named the ones below it. Assumes nothing.
+-- What is left of a number once a `match` has named the ones below it.
 use mathlib.Core.Path.{_≡_}
 use Prim.Native.Nat.{ℕ, zero, suc, _+_, _≤_}
 use native.Mathlib.Omega.{arith}

@@ -1,4 +1,4 @@
--- Small facts about floats that several proofs cite. Assumes nothing.
+-- Small facts about floats that several proofs cite.
 use mathlib.Core.Path.{_≡_, refl, sym, ap, _∙_, subst}
 use mathlib.Core.Bool.{Bool, true, false, not, false≢true}
 use Prim.Native.Nat.{ℕ, _*_, _%_, _^_, _≤_, _<_}

@@ -1,6 +1,6 @@
 -- SQRT is the nearest binary64 number to the exact root, for every finite x above zero, subnormal ones included; of +0, -0 and +infinity it is the number itself,
 -- and of a NaN and a negative number a NaN. With r the whole number that `nearestRoot` finds for s = w × 2 ^ 52 and u the root's last place, x is s × u², the root is r × u, and
--- every other binary64 number from 2 ^ 52 × u up is a multiple of u. Assumes nothing.
+-- every other binary64 number from 2 ^ 52 × u up is a multiple of u.
 use mathlib.Core.Path.{_≡_, refl, sym, ap, _∙_, subst, subst₂}
 use mathlib.Core.Logic.{inl, inr}
 use mathlib.Core.Bool.{Bool, true, false, cond}

@@ -1,4 +1,4 @@
--- Powers of two as floats: their bits, and the difference of two exponents. Assumes nothing.
+-- Powers of two as floats: their bits, and the difference of two exponents.
 use mathlib.Core.Path.{_≡_, refl, sym, ap, _∙_, subst}
 use mathlib.Core.Bool.{Bool, true, false, cond, not}
 use Prim.Native.Nat.{ℕ, zero, suc, _+_, _-_, _*_, _/_, _%_, _^_, _≤_, _<_}

@@ -1,4 +1,4 @@
--- `rootOf` is the whole part of the square root, and the loop's step keeps it so. Assumes nothing.
+-- `rootOf` is the whole part of the square root, and the loop's step keeps it so.
 use mathlib.Core.Path.{_≡_, refl, sym, ap, _∙_, subst, subst₂}
 use mathlib.Core.Bool.{Bool, true, false, cond}
 use Prim.Native.Nat.{ℕ, zero, suc, _+_, _-_, _*_, _/_, _%_, _^_, _≤_, _<_}

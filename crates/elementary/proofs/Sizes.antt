@@ -1,4 +1,4 @@
--- How large the results of rounded operations can be, as whole-number bounds: a fraction of at most N rounds to at most N, since N itself is a float. Assumes nothing.
+-- How large the results of rounded operations can be, as whole-number bounds: a fraction of at most N rounds to at most N, since N itself is a float.
 use mathlib.Core.Path.{_≡_, refl, sym, ap, _∙_, subst}
 use mathlib.Core.Bool.{Bool, true, false, cond, not, _&&_, _||_, Bool·beq, true≢false, false≢true}
 use Prim.Native.Nat.{ℕ, zero, suc, _+_, _-_, _*_, _/_, _%_, _^_, _≤_, _<_}
@@ -96,13 +96,13 @@ not-or : (a b : Bool) → (a || b) ≡ false → a ≡ false
 not-or true b h = h
 not-or false b h = refl
 
-pub between : (y : Float) → isNan y ≡ false → (710·0 ≼ y) ≡ false → (y ≼ neg 746·0) ≡ false → Within 746 y
+pub between-bounds : (y : Float) → isNan y ≡ false → (710·0 ≼ y) ≡ false → (y ≼ neg 746·0) ≡ false → Within 746 y
 unfolding isNan le neg ofBits
-between nan a b c = true≢false a
-between (inf false) a b c = true≢false b
-between (inf true) a b c = true≢false c
-between (fin false m e) a b c = let h = ltb-false (355 * 2 * down e) (m * up e * 1) (not-or _ _ b) in omega arith
-between (fin true m e) a b c = let h = ltb-false (373 * 2 * down e) (m * up e * 1) (not-or _ _ c) in omega arith
+between-bounds nan a b c = true≢false a
+between-bounds (inf false) a b c = true≢false b
+between-bounds (inf true) a b c = true≢false c
+between-bounds (fin false m e) a b c = let h = ltb-false (355 * 2 * down e) (m * up e * 1) (not-or _ _ b) in omega arith
+between-bounds (fin true m e) a b c = let h = ltb-false (373 * 2 * down e) (m * up e * 1) (not-or _ _ c) in omega arith
 
 -- there y / LN_2 + 0.5 is at most 1493 in size
 pub exponent-within : (y : Float) → Within 746 y → Within 1493 (y ⊘ «LN_2» ⊕ 0·5)

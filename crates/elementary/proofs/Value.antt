@@ -1,4 +1,4 @@
--- What `splitOf` gives is the number: significand × 2 ^ (digits - 1127). And its floor can be read off these parts. Assumes nothing.
+-- What `splitOf` gives is the number: significand × 2 ^ (digits - 1127). And its floor can be read off these parts.
 use mathlib.Core.Path.{_≡_, refl, sym, ap, _∙_, subst}
 use mathlib.Core.Bool.{Bool, true, false, cond}
 use Prim.Native.Nat.{ℕ, zero, suc, _+_, _-_, _*_, _/_, _%_, _^_, _≤_, _<_}
@@ -13,9 +13,9 @@ use lib.Ieee.Digits.{back, size-le}
 use lib.Ieee.Fits.{down-pos}
 use lib.Ieee.Nearest.{div-same}
 use borrow.Author.Tests.{eq-eqb, ne-eqb}
-use Rattle.elementary.specs.declared.Parts.{Parts}
-use Rattle.elementary.specs.declared.Parts.the-variants.{Nan, Infinite, Zero, Finite}
-use Rattle.elementary.specs.declared.Whole.{Whole}
+use Rattle.elementary.specs.declared.split.Parts.{Parts}
+use Rattle.elementary.specs.declared.split.Parts.the-variants.{Nan, Infinite, Zero, Finite}
+use Rattle.elementary.specs.declared.split.Whole.{Whole}
 use Rattle.elementary.specs.Split.{units, normalised, splitOf, floorSize, floorOf, Within, Taken}
 use Rattle.elementary.proofs.Bits.{Held, held, Units, in-units}
 

@@ -1,5 +1,5 @@
--- The constants of document 01's fixed steps, each under its decimal, with the bits that the program stores. `constants-nearest` shows once, by computing,
--- that each pattern of bits is the binary64 number nearest to its decimal.
+-- The constants of the fixed steps (docs/REFERENCE.md, Fixed steps), and those that the crates above share, each under its decimal, with the bits that the
+-- program stores. `constants-nearest` shows once, by computing, that each pattern of bits is the binary64 number nearest to its decimal.
 use mathlib.Core.Path.{_≡_, refl}
 use mathlib.Core.List.{List, [], _∷_, map}
 use mathlib.Core.Bool.{false}
@@ -15,6 +15,10 @@ abbrev pub 0·0 : Float
 abbrev pub 0·5 : Float
 0·5 = bits 0x3fe0_0000_0000_0000
 
+-- 0.8
+abbrev pub 0·8 : Float
+0·8 = bits 0x3fe9_9999_9999_999a
+
 -- 1
 abbrev pub 1·0 : Float
 1·0 = bits 0x3ff0_0000_0000_0000
@@ -23,7 +27,7 @@ abbrev pub 1·0 : Float
 abbrev pub 2·0 : Float
 2·0 = bits 0x4000_0000_0000_0000
 
--- LN's threshold 1.4142135623730951, just below the square root of 2
+-- LN's threshold 1.4142135623730951, just above the square root of 2 and the binary64 number nearest to it
 abbrev pub 1·4142135623730951 : Float
 1·4142135623730951 = bits 0x3ff6_a09e_667f_3bcd
 
@@ -47,6 +51,7 @@ abbrev constants : List (Float × ℕ × ℕ)
 constants =
     (0·0, 0, 1)
     ∷ (0·5, 5, 10)
+    ∷ (0·8, 8, 10)
     ∷ (1·0, 1, 1)
     ∷ (2·0, 2, 1)
     ∷ (1·4142135623730951, 14142135623730951, 10 ^ 16)

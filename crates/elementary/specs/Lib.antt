@@ -1,7 +1,9 @@
--- The definitions of the crate `elementary`: the notation, the constants, a float taken apart, and document 01's fixed steps.
+-- The definitions of the crate `elementary`: the notation, the constants, a float taken apart, the fixed steps (docs/REFERENCE.md, Fixed steps), and tests on
+-- floats.
 pub mod Arithmetic
 pub mod Constants
 pub mod Split
 pub mod Root
 pub mod Steps
+pub mod Tests
 pub mod Nearest

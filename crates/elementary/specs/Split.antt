@@ -6,9 +6,11 @@ use Prim.Native.Nat.{ℕ, zero, suc, _+_, _*_, _/_, _%_, _^_, _≤_, _<_}
 use lib.IntN.{ℤ, pos, negℤ}
 use lib.Dec.{eqb}
 use lib.Ieee.{Float, nan, inf, fin, up, down, size}
-use Rattle.elementary.specs.declared.Parts.{Parts}
-use Rattle.elementary.specs.declared.Parts.the-variants.{Nan, Infinite, Zero, Finite}
-use Rattle.elementary.specs.declared.Whole.{Whole}
+use Rattle.elementary.specs.declared.split.Parts.{Parts}
+use Rattle.elementary.specs.declared.split.Parts.the-variants.{Nan, Infinite, Zero, Finite}
+use Rattle.elementary.specs.declared.split.Positive.{Positive}
+use Rattle.elementary.specs.declared.split.Positive.the-variants
+use Rattle.elementary.specs.declared.split.Whole.{Whole}
 
 -- m × 2 ^ e in units of 2 ^ -1074: a whole number for every number that binary64 holds
 abbrev pub units : ℕ → ℤ → ℕ
@@ -30,6 +32,18 @@ pub record Taken (significand digits : ℕ) : Type 0 where
   pub narrow : significand < 2 ^ 53
   pub some : 1 ≤ digits
   pub few : digits ≤ 2098
+
+-- what SQRT and LN share: "NaN is the answer to a NaN argument, to a negative x", and +infinity gives itself
+abbrev pub positiveOf : Parts → Positive
+positiveOf Nan = the-variants.Not nan
+positiveOf (Infinite s) = the-variants.Not (cond s nan (inf false))
+positiveOf (Zero s) = the-variants.Zero s
+positiveOf (Finite s g d) = cond s (the-variants.Not nan) (the-variants.Finite g d)
+
+abbrev pub TakenIn : Positive → Type 0
+TakenIn (the-variants.Not answer) = Unit
+TakenIn (the-variants.Zero s) = Unit
+TakenIn (the-variants.Finite g d) = Taken g d
 
 -- ---- the greatest whole number that is at most x, as a sign and a size
 

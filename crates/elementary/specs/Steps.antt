@@ -1,16 +1,17 @@
--- Document 01's "Fixed steps", line by line: SQRT, LN, EXP, POW and SIN on every binary64 number. One rounding an operation, in the order written.
+-- The fixed steps (docs/REFERENCE.md, Fixed steps), line by line: SQRT, LN, EXP, POW and SIN on every binary64 number. One rounding an operation, in the order
+-- written.
 use mathlib.Core.Bool.{Bool, true, false, cond, _||_}
 use mathlib.Core.List.{List, [], _∷_}
 use Prim.Native.Nat.{ℕ, _+_, _-_, _*_, _/_, _%_, _^_}
 use lib.IntN.{pos}
 use lib.Dec.{eqb}
 use lib.Ieee.{Float, nan, inf, fin, neg, isNan, minus}
-use Rattle.elementary.specs.declared.Parts.{Parts}
-use Rattle.elementary.specs.declared.Parts.the-variants.{Nan, Infinite, Zero, Finite}
-use Rattle.elementary.specs.declared.Whole.{Whole}
+use Rattle.elementary.specs.declared.split.Positive.{Positive}
+use Rattle.elementary.specs.declared.split.Positive.the-variants.{Not, Zero, Finite}
+use Rattle.elementary.specs.declared.split.Whole.{Whole}
 use Rattle.elementary.specs.Arithmetic.{_⊕_, _⊖_, _⊗_, _⊘_, _≺_, _≼_, _≈_, whole}
 use Rattle.elementary.specs.Constants.{0·0, 0·5, 1·0, 2·0, 1·4142135623730951, «LN_2», 710·0, 746·0, ulp-of-one}
-use Rattle.elementary.specs.Split.{splitOf, floorOf, two^, signed}
+use Rattle.elementary.specs.Split.{splitOf, positiveOf, floorOf, two^, signed}
 use Rattle.elementary.specs.Root.{nearestRoot}
 
 -- p, taken through a step for each number of a list
@@ -28,14 +29,13 @@ sqrtSteps g d =
     let j = (d - 1) / 2 in
     whole (nearestRoot 53 (w * 2 ^ 52)) ⊗ two^ (minus j 589)
 
-abbrev pub sqrtParts : Parts → Float
-sqrtParts Nan = nan
-sqrtParts (Infinite s) = cond s nan (inf false)
+abbrev pub sqrtParts : Positive → Float
+sqrtParts (Not answer) = answer
 sqrtParts (Zero s) = fin s 0 (pos 0)
-sqrtParts (Finite s g d) = cond s nan (sqrtSteps g d)
+sqrtParts (Finite g d) = sqrtSteps g d
 
 unfoldable pub SQRT : Float → Float
-SQRT x = sqrtParts (splitOf x)
+SQRT x = sqrtParts (positiveOf (splitOf x))
 
 -- ---- LN(x), x > 0
 
@@ -61,15 +61,14 @@ lnSteps g d =
     let m = whole g ⊗ ulp-of-one in
     cond (1·4142135623730951 ≺ m) (lnSum (0·5 ⊗ m) (d + 1)) (lnSum m d)
 
--- +infinity gives itself; NaN for a NaN, a negative x and 0
-abbrev pub lnParts : Parts → Float
-lnParts Nan = nan
-lnParts (Infinite s) = cond s nan (inf false)
+-- NaN is the answer to LN(0)
+abbrev pub lnParts : Positive → Float
+lnParts (Not answer) = answer
 lnParts (Zero s) = nan
-lnParts (Finite s g d) = cond s nan (lnSteps g d)
+lnParts (Finite g d) = lnSteps g d
 
 unfoldable pub LN : Float → Float
-LN x = lnParts (splitOf x)
+LN x = lnParts (positiveOf (splitOf x))
 
 -- ---- EXP(y)
 
@@ -107,16 +106,19 @@ EXP y =
 
 -- ---- POW(x, y), x ≥ 0. A negative x gives NaN, whatever y is; then y = 0 and x = 1 come before the NaN test
 
--- x = 0 gives 0 for y > 0, +infinity for y < 0
-unfoldable pub POW : Float → Float → Float
+-- x = 0 gives 0 for y > 0, +infinity for y < 0; else EXP(y × LN(x))
+unfoldable pub powSteps : Float → Float → Float
 unfolding EXP LN
+powSteps x y = cond (x ≈ 0·0) (cond (0·0 ≺ y) 0·0 (inf false)) (EXP (y ⊗ LN x))
+
+unfoldable pub POW : Float → Float → Float
+unfolding powSteps
 POW x y =
     cond (x ≺ 0·0) nan
     (cond (y ≈ 0·0) 1·0
     (cond (x ≈ 1·0) 1·0
     (cond (isNan x || isNan y) nan
-    (cond (x ≈ 0·0) (cond (0·0 ≺ y) 0·0 (inf false))
-    (EXP (y ⊗ LN x))))))
+    (powSteps x y))))
 
 -- ---- SIN(x): z = x × x; p starts at 1, then for k = 22, 20, .. 2: p = 1 - (z × p)/(k × (k + 1)). Answer x × p
 unfoldable pub SIN : Float → Float

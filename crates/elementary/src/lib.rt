@@ -1,76 +1,31 @@
-// Document 01's fixed steps for the functions that the drag formulas need and no file of the
+// The fixed steps (docs/REFERENCE.md, Fixed steps) for the functions that the drag formulas need and no file of the
 // original holds: `sqrt`, `ln`, `exp`, `powf` and `sin` on every `f64`, NaN and infinities among
-// them. Each is proved equal to its definition in specs/Steps.antt.
+// them. Each is proved equal to its definition in specs/Steps.antt. Beside them stand the tests and
+// the choice on floats that every formula may need (specs/Tests.antt).
 ghost use mathlib.Core.Path.{_≡_};
 ghost use mathlib.Core.Bool.{false};
-ghost use Prim.Native.Nat.{_+_, _-_, _*_, _≤_, _<_, _^_};
+ghost use Prim.Native.Nat.{_≤_, _^_};
 ghost use lib.Ieee.{nan, inf, binary64, toBits, ofBits, minus};
-ghost use Rattle.elementary.specs.Split.{splitOf, floorOf, two^, signed, Taken, Within, floorSize};
+ghost use lib.Ieee.Scale.{finite};
+ghost use Rattle.elementary.specs.Split.{two^, signed, Taken, Within};
 ghost use Rattle.elementary.specs.Arithmetic.{whole};
-ghost use Rattle.elementary.specs.Root.{nearestRoot};
-ghost use Rattle.elementary.specs.Steps.{SQRT, LN, EXP, POW, SIN, lnSum, sqrtSteps, lnSteps, expSteps, expSeries, wholeOf};
+ghost use Rattle.elementary.specs.Steps.{SQRT, LN, EXP, POW, SIN, lnSum, sqrtSteps, lnSteps, expSteps, powSteps, expSeries, wholeOf};
+ghost use Rattle.elementary.specs.Tests.{between, maxOf};
+
+mod split;
+mod whole_root;
+
+pub use split::Parts;
+use split::Positive;
+pub use split::Whole;
+use split::floor;
+use split::positive_parts;
+use whole_root::nearest_root;
 
 pub const LN_2: f64 = 0.6931471805599453;
 
 // 2^-52, the unit in the last place of 1.
 const ULP_OF_ONE: f64 = 0.0000000000000002220446049250313080847263336181640625;
-
-// A float taken apart. A finite number other than zero is significand × 2^(digits - 1127), and its
-// significand has 53 binary digits, subnormal numbers included.
-pub enum Parts {
-    Nan,
-    Infinite {
-        negative: bool,
-    },
-    Zero {
-        negative: bool,
-    },
-    Finite {
-        negative: bool,
-        significand: u64,
-        digits: u64,
-    },
-}
-
-// A whole number as a sign and a size.
-pub struct Whole {
-    pub negative: bool,
-    pub size: u64,
-}
-
-// Where a float is taken apart: of any other only `guess` reads the digits, a normal number's, and its
-// answer is tested. Leading zeros bring a subnormal's significand to 53 digits.
-fn split(x: f64) -> Parts
-    ensures { λ r. ⌜ r ≡ splitOf x ⌝ }
-{
-    if x != x {
-        return Parts::Nan;
-    }
-    let bits = f64::to_bits(x);
-    let negative = 0x8000_0000_0000_0000 <= bits;
-    let magnitude = bits % 0x8000_0000_0000_0000;
-    let field = magnitude / 0x10_0000_0000_0000;
-    let fraction = magnitude % 0x10_0000_0000_0000;
-    if field == 2047 {
-        return Parts::Infinite { negative };
-    }
-    if field == 0 {
-        if fraction == 0 {
-            return Parts::Zero { negative };
-        }
-        let shift = u64::leading_zeros(fraction) - 11;
-        return Parts::Finite {
-            negative,
-            significand: fraction << shift,
-            digits: 53 - shift as u64,
-        };
-    }
-    Parts::Finite {
-        negative,
-        significand: 0x10_0000_0000_0000 + fraction,
-        digits: field + 52,
-    }
-}
 
 // A NaN, and +infinity: the language has no literal for either.
 pub fn nan() -> f64
@@ -105,6 +60,37 @@ pub fn from_bits(bits: u64) -> f64
     f64::from_bits(bits)
 }
 
+// ---- tests and choices that the formulas share
+
+// Neither a NaN nor an infinity: only those give a NaN when they are taken from themselves.
+pub fn is_finite(x: f64) -> bool
+    ensures { λ r. ⌜ r ≡ finite x ⌝ }
+{
+    x - x == 0.0
+}
+
+// From low to high, both ends included; false at a NaN.
+pub fn is_between(low: f64, x: f64, high: f64) -> bool
+    ensures { λ r. ⌜ r ≡ between low x high ⌝ }
+{
+    low <= x && x <= high
+}
+
+// Rust's f64::max: the other one where one is a NaN. Of two zeros of unlike sign Rust leaves open which it is; here it is the first.
+pub fn max(a: f64, b: f64) -> f64
+    ensures { λ r. ⌜ r ≡ maxOf a b ⌝ }
+{
+    if a < b {
+        b
+    } else if a != a {
+        b
+    } else {
+        a
+    }
+}
+
+// ---- the fixed steps
+
 // 2^(field - 1023), from the bits.
 fn power(field: u64) -> f64
     requires { ⌜ (1 ≤ field) × (field ≤ 2046) ⌝ }
@@ -113,7 +99,7 @@ fn power(field: u64) -> f64
     f64::from_bits(field * 0x10_0000_0000_0000)
 }
 
-// A whole number below 2^53 as a float, which holds it exactly.
+// A whole number of at most 2^53 as a float, which holds it exactly.
 fn number(n: u64) -> f64
     requires { ⌜ n ≤ 2 ^ 53 ⌝ }
     ensures { λ r. ⌜ r ≡ whole n ⌝ }
@@ -133,112 +119,6 @@ fn signed_power(negative: bool, n: u64) -> f64
     }
 }
 
-// Some number a little below the root of w × 2^52, for a w of 53 or 54 digits. x is w as a float from
-// 1 to 4, y a first guess at 1/√x from the bits of x (the fast inverse square root), and each step
-// brings `root` and `half` nearer to √x and 1/(2√x). Only the answer's size is proved: its user tests
-// it.
-fn guess(w: u64) -> u64
-    requires { ⌜ w < 2 ^ 54 ⌝ }
-    ensures { λ r. ⌜ (0 < r) × (r < 2 ^ 53) ⌝ }
-{
-    let bits = if w < 0x20_0000_0000_0000 {
-        w + 0x3fe0_0000_0000_0000
-    } else {
-        w / 2 + 0x3ff0_0000_0000_0000
-    };
-    let x = from_bits(bits);
-    let y = from_bits(0x5fe6_eb50_c7b5_37a9 - bits / 2);
-    let root = x * y;
-    let half = 0.5 * y;
-    let step = 1.5 - root * half;
-    let root = root * step;
-    let half = half * step;
-    let step = 1.5 - root * half;
-    let root = root * step;
-    let half = half * step;
-    let step = 1.5 - root * half;
-    let root = root * step;
-    let half = half * step;
-    let root = root + (x - root * root) * half;
-    0xf_ffff_ffff_ffff + to_bits(root) % 0x10_0000_0000_0000
-}
-
-// What w × 2^52 has above root × root, or 2^64 - 1 where that is below 0 or far too much. With root =
-// a × 2^27 + b it is (w - 4 a²) × 2^52 - a b × 2^28 - b², and a test before each step keeps it in 64
-// bits.
-fn left_over(w: u64, root: u64) -> u64
-    requires { ⌜ (w < 2 ^ 54) × (root < 2 ^ 53) ⌝ }
-    ensures { λ r. ⌜ (r < 2 ^ 64 - 1 → r + root * root ≡ w * 2 ^ 52) ⌝ }
-{
-    let a = root / 0x800_0000;
-    let b = root % 0x800_0000;
-    let first = 4 * (a * a);
-    if w < first {
-        return 0xffff_ffff_ffff_ffff;
-    }
-    let after_first = w - first;
-    if 0x100_0000_0000 <= after_first {
-        return 0xffff_ffff_ffff_ffff;
-    }
-    let second = a * b;
-    if after_first * 0x100_0000 < second {
-        return 0xffff_ffff_ffff_ffff;
-    }
-    let after_second = after_first * 0x100_0000 - second;
-    if 0x8_0000_0000 <= after_second {
-        return 0xffff_ffff_ffff_ffff;
-    }
-    let third = b * b;
-    if after_second * 0x1000_0000 < third {
-        return 0xffff_ffff_ffff_ffff;
-    }
-    after_second * 0x1000_0000 - third
-}
-
-// The whole number nearest to the root of w × 2^52. What is left over the guess's square tells
-// whether it is the guess or one of the two numbers after it. If it is none of them, which no w of 53
-// or 54 digits is known to bring about, the root is found digit by digit.
-fn nearest_root(w: u64) -> u64
-    requires { ⌜ w < 2 ^ 54 ⌝ }
-    ensures { λ r. ⌜ r ≡ nearestRoot 53 (w * 2 ^ 52) ⌝ }
-{
-    let root = guess(w);
-    let left = left_over(w, root);
-    if 5 * root + 6 < left {
-        return root_by_digits(w);
-    }
-    if left <= root {
-        root
-    } else if left <= 3 * root + 2 {
-        root + 1
-    } else {
-        root + 2
-    }
-}
-
-// The same number, digit by digit from the highest. Each turn reads two more digits of w × 2^52 off
-// the top of `rest` and gives one digit of the root; `left` is what has been read, less root × root.
-fn root_by_digits(w: u64) -> u64
-    requires { ⌜ w < 2 ^ 54 ⌝ }
-    ensures { λ r. ⌜ r ≡ nearestRoot 53 (w * 2 ^ 52) ⌝ }
-{
-    let mut rest = 1024 * w;
-    let mut root = 0u64;
-    let mut left = 0u64;
-    for digit in 0u64..53 {
-        let read = 4 * left + rest / 0x4000_0000_0000_0000;
-        rest = 4 * (rest % 0x4000_0000_0000_0000);
-        if read < 4 * root + 1 {
-            left = read;
-            root = 2 * root;
-        } else {
-            left = read - (4 * root + 1);
-            root = 2 * root + 1;
-        }
-    }
-    if root < left { root + 1 } else { root }
-}
-
 // The root of significand × 2^(digits - 1127).
 fn sqrt_steps(significand: u64, digits: u64) -> f64
     requires { ⌜ Taken significand digits ⌝ }
@@ -255,22 +135,13 @@ fn sqrt_steps(significand: u64, digits: u64) -> f64
 pub fn sqrt(x: f64) -> f64
     ensures { λ r. ⌜ r ≡ SQRT x ⌝ }
 {
-    let parts = split(x);
-    match parts {
-        Parts::Nan => nan(),
-        Parts::Infinite { negative } => { if negative { nan() } else { infinity() } }
-        Parts::Zero { negative } => { if negative { -0.0 } else { 0.0 } }
-        Parts::Finite {
-            negative,
+    match positive_parts(x) {
+        Positive::Not(answer) => answer,
+        Positive::Zero { negative } => { if negative { -0.0 } else { 0.0 } }
+        Positive::Finite {
             significand,
             digits,
-        } => {
-            if negative {
-                nan()
-            } else {
-                sqrt_steps(significand, digits)
-            }
-        }
+        } => sqrt_steps(significand, digits),
     }
 }
 
@@ -312,72 +183,13 @@ fn ln_steps(significand: u64, digits: u64) -> f64
 pub fn ln(x: f64) -> f64
     ensures { λ r. ⌜ r ≡ LN x ⌝ }
 {
-    let parts = split(x);
-    match parts {
-        Parts::Nan => nan(),
-        Parts::Infinite { negative } => { if negative { nan() } else { infinity() } }
-        Parts::Zero { negative: _ } => nan(),
-        Parts::Finite {
-            negative,
+    match positive_parts(x) {
+        Positive::Not(answer) => answer,
+        Positive::Zero { negative: _ } => nan(),
+        Positive::Finite {
             significand,
             digits,
-        } => {
-            if negative {
-                nan()
-            } else {
-                ln_steps(significand, digits)
-            }
-        }
-    }
-}
-
-// The greatest whole number that is at most x, for an x of less than 2^52 in size.
-fn floor(x: f64) -> Whole
-    requires { ⌜ Within (2 ^ 51) x ⌝ }
-    ensures { λ r. ⌜ r ≡ floorOf x ⌝ }
-{
-    let parts = split(x);
-    match parts {
-        Parts::Nan => Whole {
-            negative: false,
-            size: 0,
-        },
-        Parts::Infinite { negative: _ } => Whole {
-            negative: false,
-            size: 0,
-        },
-        Parts::Zero { negative } => Whole { negative, size: 0 },
-        Parts::Finite {
-            negative,
-            significand,
-            digits,
-        } => Whole {
-            negative,
-            size: floor_size(negative, significand, digits),
-        },
-    }
-}
-
-// The size of that number, for significand × 2^(digits - 1127): its whole part, and one more for a
-// negative number with a fraction.
-fn floor_size(negative: bool, significand: u64, digits: u64) -> u64
-    requires { ⌜ Taken significand digits × (digits ≤ 1126) ⌝ }
-    ensures { λ r. ⌜ r ≡ floorSize negative significand (2 ^ (1127 - digits)) ⌝ }
-{
-    if digits <= 1074 {
-        if negative { 1 } else { 0 }
-    } else {
-        let shift = 1127 - digits;
-        let whole = significand >> shift;
-        if negative {
-            if significand % (1u64 << shift) == 0 {
-                whole
-            } else {
-                whole + 1
-            }
-        } else {
-            whole
-        }
+        } => ln_steps(significand, digits),
     }
 }
 
@@ -456,13 +268,18 @@ pub fn powf(x: f64, y: f64) -> f64
     if y != y {
         return nan();
     }
+    pow_steps(x, y)
+}
+
+// POW's steps past its tests.
+fn pow_steps(x: f64, y: f64) -> f64
+    ensures { λ r. ⌜ r ≡ powSteps x y ⌝ }
+{
     if x == 0.0 {
-        if 0.0 < y {
-            return 0.0;
-        }
-        return infinity();
+        if 0.0 < y { 0.0 } else { infinity() }
+    } else {
+        exp(y * ln(x))
     }
-    exp(y * ln(x))
 }
 
 pub fn sin(x: f64) -> f64

@@ -4,14 +4,16 @@ use lib.Ieee.{Float}
 use lib.Ieee.Scale.{finite}
 use Rattle.elementary.specs.Arithmetic.{_⊕_, _⊖_, _⊗_, _⊘_, _≺_, _≈_}
 use Rattle.elementary.specs.Steps.{POW}
+use Rattle.elementary.specs.Tests.{between}
 use Rattle.elementary.specs.Constants.{2·0, 0·0, 1·0}
+use Rattle.aero_error.specs.declared.Check.{Check}
 use Rattle.aero_error.specs.declared.Coefficient.{Coefficient}
 use Rattle.aero_error.specs.declared.Coefficient.the-variants.{Value}
 use Rattle.aero_error.specs.declared.Quantity.the-variants.{TransonicLowerBound, DragAtRest, DragAtLowerBound, SlopeAtLowerBound, MachBelowLowerBound}
-use Rattle.aero_error.specs.Checks.{required, dimension, between, _and-then_}
+use Rattle.aero_error.specs.Checks.{required, dimension, _then_, _and-then_}
 use Rattle.stoney.specs.declared.ValueAndSlope.{ValueAndSlope}
-use Rattle.nose_drag.specs.declared.Fit.{Fit}
-use Rattle.nose_drag.specs.declared.Fit.the-variants.{Power, Quadratic}
+use Rattle.nose_drag.specs.declared.fit.Fit.{Fit}
+use Rattle.nose_drag.specs.declared.fit.Fit.the-variants.{Power, Quadratic}
 
 -- b = C_T'(M_L) M_L/Δ. The power where the drag rises and b is above 1, else the quadratic.
 unfoldable pub fitOf : Float → Float → Float → Fit
@@ -45,11 +47,16 @@ fitted rest fit ML method M =
     let rise = fitAt fit M ML in
     cond (M ≺ ML) (record { value = rest ⊕ rise .value; slope = rise .slope }) (method M)
 
+-- eq. 3.87's numbers, in the Rust's order of tests
+unfoldable pub belowChecked : Float → Float → Float → Float → Float → Check
+belowChecked c-rest c-low slope-low ML M =
+    required (dimension ML false) TransonicLowerBound ML
+    then required (finite c-rest) DragAtRest c-rest
+    then required (finite c-low) DragAtLowerBound c-low
+    then required (finite slope-low) SlopeAtLowerBound slope-low
+    then required (between 0·0 M ML) MachBelowLowerBound M
+
 unfoldable pub subsonicPressureDragCoefficient : Float → Float → Float → Float → Float → Coefficient
 subsonicPressureDragCoefficient c-rest c-low slope-low ML M =
-    required (dimension ML false) TransonicLowerBound ML and-then
-    required (finite c-rest) DragAtRest c-rest and-then
-    required (finite c-low) DragAtLowerBound c-low and-then
-    required (finite slope-low) SlopeAtLowerBound slope-low and-then
-    required (between 0·0 M ML) MachBelowLowerBound M and-then
+    belowChecked c-rest c-low slope-low ML M and-then
     Value (c-rest ⊕ fitAt (fitOf (c-low ⊖ c-rest) slope-low ML) M ML .value)

@@ -5,8 +5,8 @@ use mathlib.Core.List.{List, [], _∷_, map}
 use Prim.Native.Nat.{ℕ}
 use lib.Ieee.{Float, round, ofBits, neg, mul, div}
 use Rattle.elementary.specs.Arithmetic.{_⊗_, _⊘_, bits}
-use Rattle.elementary.specs.Constants.{2·0, «LN_2», stored, nearest, 0·5, 1·0}
-use Rattle.drag.specs.Constants.{0·8, 3·0}
+use Rattle.elementary.specs.Constants.{2·0, «LN_2», stored, nearest, 0·5, 0·8, 1·0}
+use Rattle.drag.specs.Constants.{3·0}
 
 abbrev pub 0·01 : Float
 0·01 = bits 0x3f847ae147ae147b

@@ -4,31 +4,33 @@ use lib.Ieee.{Float, ne}
 use lib.Ieee.Scale.{finite}
 use Rattle.elementary.specs.Arithmetic.{_⊕_, _⊖_, _⊗_, _⊘_, _≺_, _≼_, _≈_}
 use Rattle.elementary.specs.Steps.{LN}
+use Rattle.elementary.specs.Tests.{between}
 use Rattle.elementary.specs.Constants.{«LN_2», 0·0, 0·5, 1·0}
 use Rattle.aero_error.specs.declared.AeroError.the-variants.{Broken}
 use Rattle.aero_error.specs.declared.Rule.the-variants.{OgiveRadiusRatio, HaackAboveThird}
 use Rattle.aero_error.specs.declared.Check.{Check}
-use Rattle.aero_error.specs.declared.Check.the-variants.{Passed, Failed}
 use Rattle.aero_error.specs.declared.Coefficient.{Coefficient}
+use Rattle.aero_error.specs.declared.Quantity.{Quantity}
 use Rattle.aero_error.specs.declared.Quantity.the-variants.{Fineness, PowerExponent, ParabolicParameter, HaackParameter}
-use Rattle.aero_error.specs.Checks.{required, dimension, between, _and-then_}
-use Rattle.drag.specs.Constants.{0·25, 3·0, SUBSONIC-MACH-LIMIT}
+use Rattle.aero_error.specs.Checks.{required, dimension, after, withValue, _and-then_}
+use Rattle.drag.specs.Constants.{0·25, 3·0}
+use Rattle.stoney.specs.Lookup.{SUBSONIC-MACH-LIMIT}
 use Rattle.drag.specs.Friction.{machChecked}
 use Rattle.drag.specs.Pressure.{jointPressureDragCoefficient}
 use Rattle.shapes.specs.declared.NoseShape.{NoseShape}
 use Rattle.shapes.specs.declared.NoseShape.the-variants.{Conical, Ogive, Elliptical, PowerSeries, ParabolicSeries, Haack}
 use Rattle.stoney.specs.declared.StoneyNose.the-variants.{PowerQuarter, PowerHalf, PowerThreeQuarters, ParabolaHalf, ParabolaThreeQuarters, Parabola, LvHaack, VonKarman}
 use Rattle.stoney.specs.declared.ValueAndSlope.{ValueAndSlope}
-use Rattle.nose_drag.specs.declared.Reference.{Reference}
-use Rattle.nose_drag.specs.declared.Transonic.{Transonic}
-use Rattle.nose_drag.specs.declared.CurveShape.{CurveShape}
-use Rattle.nose_drag.specs.declared.PressureDragCurve.{PressureDragCurve}
-use Rattle.nose_drag.specs.declared.Curve.{Curve}
-use Rattle.nose_drag.specs.declared.Bracket.{Bracket}
-use Rattle.nose_drag.specs.Constants.{0·75, CONE-3-REST, LN-4, one-third}
+use Rattle.nose_drag.specs.declared.curve.Reference.{Reference}
+use Rattle.nose_drag.specs.declared.curve.Transonic.{Transonic}
+use Rattle.nose_drag.specs.declared.curve.CurveShape.{CurveShape}
+use Rattle.nose_drag.specs.declared.curve.PressureDragCurve.{PressureDragCurve}
+use Rattle.nose_drag.specs.declared.builder.Curve.{Curve}
+use Rattle.nose_drag.specs.declared.builder.Bracket.{Bracket}
+use Rattle.nose_drag.specs.Constants.{0·75, CONE-3-REST, one-third}
 use Rattle.nose_drag.specs.Forms.{sinHalfAngle}
 use Rattle.nose_drag.specs.Below.{restWith, fitWith, fitted}
-use Rattle.nose_drag.specs.Methods.{ogivePressureDragFactor, methodAt}
+use Rattle.nose_drag.specs.Methods.{ogivePressureDragFactor, finenessExponent, methodAt}
 
 infixr 20 _then-curve_ _for-curve_ _for-built_
 -- ---- a curve at a Mach number
@@ -66,7 +68,7 @@ coneCurve rest f factor =
     (fromTransonic rest (Transonic.Scaled Reference.Blunt (Reference.Cone 1·0 factor rest) 1·0 (LN (f ⊕ 1·0) ⊘ «LN_2»)) 0·0)
 
 unfoldable pub interpolated : Float → Float → Reference → Reference → Float → PressureDragCurve
-interpolated rest f lower upper weight = fromTransonic rest (Transonic.Scaled lower upper weight (LN (f ⊕ 1·0) ⊘ LN-4)) SUBSONIC-MACH-LIMIT
+interpolated rest f lower upper weight = fromTransonic rest (Transonic.Scaled lower upper weight (finenessExponent f)) SUBSONIC-MACH-LIMIT
 
 -- ---- which references a parameter lies between
 
@@ -108,12 +110,10 @@ betweenReferences rest f b parameter = interpolated rest f (b .lower) (b .upper)
 
 -- Rust's `?` where the answer is a curve
 abbrev pub _then-curve_ : Check → Curve → Curve
-Passed then-curve answer = answer
-Failed refusal then-curve answer = Curve.Refused refusal
+check then-curve answer = after Curve.Refused check answer
 
 abbrev pub _for-curve_ : Coefficient → (Float → Curve) → Curve
-Coefficient.Value value for-curve rest = rest value
-Coefficient.Refused refusal for-curve rest = Curve.Refused refusal
+first for-curve rest = withValue Curve.Refused first rest
 
 abbrev pub _for-built_ : Curve → (PressureDragCurve → Curve) → Curve
 Curve.Built curve for-built rest = rest curve
@@ -126,11 +126,15 @@ ogive rest f radius-ratio =
     (ogivePressureDragFactor (1·0 ⊘ radius-ratio) for-curve λ factor. Curve.Built (coneCurve rest f factor))
     (Curve.Refused (Broken OgiveRadiusRatio))
 
+-- between the references around a parameter from 0 to 1
+abbrev pub series : Float → Float → Bracket → Quantity → Float → Curve
+series rest f b what parameter = required (between 0·0 parameter 1·0) what parameter then-curve Curve.Built (betweenReferences rest f b parameter)
+
 unfoldable pub power : Float → Float → Float → Curve
-power rest f n = required (between 0·0 n 1·0) PowerExponent n then-curve Curve.Built (betweenReferences rest f (powerBracket n) n)
+power rest f n = series rest f (powerBracket n) PowerExponent n
 
 unfoldable pub parabolic : Float → Float → Float → Curve
-parabolic rest f k = required (between 0·0 k 1·0) ParabolicParameter k then-curve Curve.Built (betweenReferences rest f (parabolicBracket k) k)
+parabolic rest f k = series rest f (parabolicBracket k) ParabolicParameter k
 
 -- "A Haack parameter above 1/3, +infinity too, is refusal 3; negative or NaN is refusal 1."
 unfoldable pub haack : Float → Float → Float → Curve

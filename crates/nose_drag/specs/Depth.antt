@@ -3,8 +3,8 @@
 use Prim.Native.Nat.{ℕ, suc, _≤_, max}
 use native.Mathlib.Omega.{arith}
 use lib.Dec.{lit≤}
-use Rattle.nose_drag.specs.declared.Reference.{Reference}
-use Rattle.nose_drag.specs.declared.Transonic.{Transonic}
+use Rattle.nose_drag.specs.declared.curve.Reference.{Reference}
+use Rattle.nose_drag.specs.declared.curve.Transonic.{Transonic}
 
 -- a cone reference makes a cone curve and asks it, and both ask the cone's method
 abbrev pub depthOfReference : Reference → ℕ

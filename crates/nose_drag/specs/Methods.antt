@@ -3,19 +3,18 @@ use mathlib.Core.Bool.{true, false, cond, _&&_}
 use lib.Ieee.{Float}
 use Rattle.elementary.specs.Arithmetic.{_⊕_, _⊖_, _⊗_, _⊘_, _≺_, _≼_}
 use Rattle.elementary.specs.Steps.{LN, POW}
+use Rattle.elementary.specs.Tests.{between, maxOf}
 use Rattle.aero_error.specs.declared.Coefficient.{Coefficient}
 use Rattle.aero_error.specs.declared.Coefficient.the-variants.{Value}
 use Rattle.aero_error.specs.declared.Quantity.the-variants.{Fineness, EllipsoidFineness, EllipsoidMach, OgiveKappa, FinenessThreeDrag, BluntDrag}
-use Rattle.aero_error.specs.Checks.{required, dimension, between, _and-then_}
+use Rattle.aero_error.specs.Checks.{required, dimension, _then_, _and-then_}
 use Rattle.elementary.specs.Constants.{0·0, 0·5, 1·0}
-use Rattle.drag.specs.Constants.{SUBSONIC-MACH-LIMIT}
-use Rattle.drag.specs.Friction.{maxOf}
 use Rattle.stoney.specs.declared.StoneyNose.the-variants
 use Rattle.stoney.specs.declared.ValueAndSlope.{ValueAndSlope}
 use Rattle.stoney.specs.Points.{firstMach}
-use Rattle.stoney.specs.Lookup.{valueAndSlope}
-use Rattle.nose_drag.specs.declared.Reference.{Reference}
-use Rattle.nose_drag.specs.declared.Transonic.{Transonic}
+use Rattle.stoney.specs.Lookup.{SUBSONIC-MACH-LIMIT, valueAndSlope}
+use Rattle.nose_drag.specs.declared.curve.Reference.{Reference}
+use Rattle.nose_drag.specs.declared.curve.Transonic.{Transonic}
 use Rattle.nose_drag.specs.Constants.{0·72, 0·82, LN-4, HEMISPHERE-FINENESS, ROUND-HEAD-FINENESS, HEMISPHERE-DRAG, ROUND-HEAD-DRAG}
 use Rattle.nose_drag.specs.Forms.{blunt, sinHalfAngle, coneMethod}
 use Rattle.nose_drag.specs.Below.{restWith, fitWith, fitted}
@@ -27,13 +26,20 @@ ogivePressureDragFactor κ =
     required (between 0·0 κ 1·0) OgiveKappa κ and-then
     Value (0·72 ⊗ d ⊗ d ⊕ 0·82)
 
--- eq. B.9
+-- eq. B.9 with its exponent: from the drag c3 measured at fineness 3 and the blunt cylinder's c0
+abbrev pub finenessScaled : Float → Float → Float → Float
+finenessScaled c3 c0 exponent = c0 ⊗ POW (c3 ⊘ c0) exponent
+
+-- its exponent for the fineness ratio f: the logarithm of f + 1 to base 4
+abbrev pub finenessExponent : Float → Float
+finenessExponent f = LN (f ⊕ 1·0) ⊘ LN-4
+
 unfoldable pub finenessScaledPressureDrag : Float → Float → Float → Coefficient
 finenessScaledPressureDrag c3 c0 f =
-    required (dimension c3 true) FinenessThreeDrag c3 and-then
-    required (dimension c0 false) BluntDrag c0 and-then
-    required (dimension f true) Fineness f and-then
-    Value (c0 ⊗ POW (c3 ⊘ c0) (LN (f ⊕ 1·0) ⊘ LN-4))
+    (required (dimension c3 true) FinenessThreeDrag c3
+    then required (dimension c0 false) BluntDrag c0
+    then required (dimension f true) Fineness f)
+    and-then Value (finenessScaled c3 c0 (finenessExponent f))
 
 -- ---- references
 
@@ -57,7 +63,7 @@ scaled lo hi weight exponent M =
     let c3 = lo .value ⊕ weight ⊗ (hi .value ⊖ lo .value) in
     let c3-slope = lo .slope ⊕ weight ⊗ (hi .slope ⊖ lo .slope) in
     let c0 = blunt M in
-    let c = c0 .value ⊗ POW (c3 ⊘ c0 .value) exponent in
+    let c = finenessScaled c3 (c0 .value) exponent in
     cond (c3 ≼ 0·0)
     (record { value = 0·0; slope = 0·0 })
     (record { value = c; slope = c ⊗ ((1·0 ⊖ exponent) ⊗ c0 .slope ⊘ c0 .value ⊕ exponent ⊗ c3-slope ⊘ c3) })
@@ -69,7 +75,7 @@ ellipsoidLowSpeed f M =
     let along = (f ⊖ HEMISPHERE-FINENESS) ⊘ (ROUND-HEAD-FINENESS ⊖ HEMISPHERE-FINENESS) in
     let c0 = blunt M in
     let exponent = LN (f ⊕ 1·0) ⊘ LN (1·0 ⊕ HEMISPHERE-FINENESS) in
-    let c = c0 .value ⊗ POW (HEMISPHERE-DRAG ⊘ c0 .value) exponent in
+    let c = finenessScaled HEMISPHERE-DRAG (c0 .value) exponent in
     cond (HEMISPHERE-FINENESS ≼ f)
     (record { value = maxOf (HEMISPHERE-DRAG ⊕ along ⊗ (ROUND-HEAD-DRAG ⊖ HEMISPHERE-DRAG)) 0·0; slope = 0·0 })
     (record { value = c; slope = c ⊗ (1·0 ⊖ exponent) ⊗ c0 .slope ⊘ c0 .value })
@@ -84,7 +90,7 @@ ellipsoidAtLeastRest f rest M =
 unfoldable pub ellipsoidMeasured : Float → Float → ValueAndSlope
 ellipsoidMeasured f M =
     let stoney = referenceAt (Reference.Stoney the-variants.Ellipsoid) M in
-    scaled stoney stoney 0·0 (LN (f ⊕ 1·0) ⊘ LN-4) M
+    scaled stoney stoney 0·0 (finenessExponent f) M
 
 -- between Mach 0.8 and Stoney's first point a straight line
 unfoldable pub ellipsoid : Float → Float → Float → ValueAndSlope
@@ -101,9 +107,9 @@ ellipsoid f rest M =
 
 unfoldable pub ellipsoidSubsonicPressureDrag : Float → Float → Coefficient
 ellipsoidSubsonicPressureDrag f M =
-    required (dimension f false) EllipsoidFineness f and-then
-    required (0·0 ≼ M && M ≺ SUBSONIC-MACH-LIMIT) EllipsoidMach M and-then
-    Value (ellipsoidLowSpeed f M .value)
+    (required (dimension f false) EllipsoidFineness f
+    then required (0·0 ≼ M && M ≺ SUBSONIC-MACH-LIMIT) EllipsoidMach M)
+    and-then Value (ellipsoidLowSpeed f M .value)
 
 abbrev pub methodAt : Transonic → Float → ValueAndSlope
 methodAt Transonic.Blunt M = blunt M

@@ -4,7 +4,7 @@ use mathlib.Core.Path.{_≡_, refl}
 use mathlib.Core.Bool.{Bool, true, false, cond}
 use lib.Ieee.{Float, ofBits, ofInt, round, sum, neg, add, sub, mul}
 use Rattle.elementary.specs.Arithmetic.{_⊕_, _⊖_, _⊗_, _⊘_, _≺_, _≼_, bits}
-use Rattle.elementary.specs.Steps.{SQRT, sqrtSteps, POW}
+use Rattle.elementary.specs.Steps.{SQRT, sqrtSteps}
 use Rattle.elementary.specs.Split.{splitOf}
 use Rattle.elementary.specs.Root.{rootOf}
 use Rattle.elementary.specs.Constants.{0·0, 0·5, 1·0}
@@ -14,7 +14,7 @@ use Rattle.stoney.specs.declared.ValueAndSlope.{ValueAndSlope}
 use Rattle.nose_drag.specs.Constants.{2·1, CONE-SUPERSONIC-MACH}
 use Rattle.nose_drag.specs.Forms.{blunt, coneSupersonic, sinHalfAngle, coneMethod}
 use Rattle.nose_drag.specs.Below.{fitted}
-use Rattle.nose_drag.specs.Methods.{scaled, wholeCone}
+use Rattle.nose_drag.specs.Methods.{finenessScaled, scaled, wholeCone}
 
 -- ---- the root of eq. B.4
 
@@ -42,7 +42,7 @@ unfoldable pub scaledValue : Float → Float → Float → Float → Float → F
 scaledValue lo hi weight exponent M =
     let c3 = lo ⊕ weight ⊗ (hi ⊖ lo) in
     let c0 = 0·85 ⊗ stagnationRatio M in
-    cond (c3 ≼ 0·0) 0·0 (c0 ⊗ POW (c3 ⊘ c0) exponent)
+    cond (c3 ≼ 0·0) 0·0 (finenessScaled c3 c0 exponent)
 
 pub value-of-scaled :
     (lo hi : ValueAndSlope) (weight exponent M : Float) → scaledValue (lo .value) (hi .value) weight exponent M ≡ scaled lo hi weight exponent M .value

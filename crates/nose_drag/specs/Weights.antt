@@ -1,18 +1,18 @@
 -- Between which references a shape's parameter lies, and with which weight the upper one counts.
--- Where Stoney measured a nose, that nose's table alone counts; in between the weight is (k - low)/(high - low). Last season's fault was a gap that was halved
--- between 0.5 and 0.75: midway there it gave the upper nose whole. `not-last-season` names that weight and excludes it.
+-- Where Stoney measured a nose, that nose's table alone counts; in between the weight is (k - low)/(high - low). A weight by half the gap
+-- between 0.5 and 0.75 would give the upper nose whole midway there. `not-half-gap` names that weight and excludes it.
 use mathlib.Core.Path.{_≡_, refl, sym, ap, _∙_}
 use mathlib.Core.Bool.{true, false, true≢false}
 use mathlib.Core.List.{[], _∷_, map}
 use lib.Ieee.{Float, ofBits, round, sum, neg, add, sub, mul, div, lt}
 use Rattle.elementary.specs.Arithmetic.{_⊖_, _⊗_, _⊘_, _≺_, bits}
+use Rattle.elementary.specs.Tests.{between}
 use Rattle.elementary.specs.Constants.{2·0, 0·0, 0·5, 1·0}
-use Rattle.aero_error.specs.Checks.{between}
 use Rattle.drag.specs.Constants.{0·25, 3·0}
 use Rattle.stoney.specs.declared.StoneyNose.the-variants.{PowerQuarter, PowerHalf, PowerThreeQuarters, ParabolaHalf, ParabolaThreeQuarters, Parabola}
-use Rattle.nose_drag.specs.declared.Reference.{Reference}
-use Rattle.nose_drag.specs.declared.Bracket.{Bracket}
-use Rattle.nose_drag.specs.declared.Curve.{Curve}
+use Rattle.nose_drag.specs.declared.curve.Reference.{Reference}
+use Rattle.nose_drag.specs.declared.builder.Bracket.{Bracket}
+use Rattle.nose_drag.specs.declared.builder.Curve.{Curve}
 use Rattle.nose_drag.specs.Constants.{0·75, one-third}
 use Rattle.nose_drag.specs.Curves.{CONE-3, powerBracket, parabolicBracket, weightOf, betweenReferences, interpolated, power, parabolic}
 
@@ -85,19 +85,19 @@ pub gap : 0·75 ⊖ 0·5 ≡ 0·25
 unfolding ofBits round sub add sum neg
 gap = refl
 
--- ---- last season's fault
+-- ---- not the half-gap weight
 
 -- the distance from 1/2 over half the gap
-abbrev pub last-season : Float → Float
-last-season k = (k ⊖ 0·5) ⊘ ((0·75 ⊖ 0·5) ⊘ 2·0)
+abbrev pub half-gap : Float → Float
+half-gap k = (k ⊖ 0·5) ⊘ ((0·75 ⊖ 0·5) ⊘ 2·0)
 
 -- 5/8, midway between 1/2 and 3/4
 abbrev pub 0·625 : Float
 0·625 = bits 0x3fe4000000000000
 
--- midway the upper nose counts one half; last season it counted whole
+-- midway the upper nose counts one half; by the half-gap weight it would count whole
 pub midway :
-    (weightOf (powerBracket 0·625) 0·625 ≡ 0·5) × (weightOf (parabolicBracket 0·625) 0·625 ≡ 0·5) × (last-season 0·625 ≡ 1·0)
+    (weightOf (powerBracket 0·625) 0·625 ≡ 0·5) × (weightOf (parabolicBracket 0·625) 0·625 ≡ 0·5) × (half-gap 0·625 ≡ 1·0)
 unfolding powerBracket parabolicBracket weightOf ofBits round sub add sum neg mul div lt
 midway = (refl, refl, refl)
 
@@ -112,6 +112,6 @@ one-is-not = refl
 half-not-one : 0·5 ≡ 1·0 → ⊥
 half-not-one e = true≢false (sym half-is-less ∙ ap (λ (x : Float). x ≺ 1·0) e ∙ one-is-not)
 
-pub not-last-season :
-    ((weightOf (powerBracket 0·625) 0·625 ≡ last-season 0·625) → ⊥) × ((weightOf (parabolicBracket 0·625) 0·625 ≡ last-season 0·625) → ⊥)
-not-last-season = ((λ e. half-not-one (sym (midway .0) ∙ e ∙ midway .2)), λ e. half-not-one (sym (midway .1) ∙ e ∙ midway .2))
+pub not-half-gap :
+    ((weightOf (powerBracket 0·625) 0·625 ≡ half-gap 0·625) → ⊥) × ((weightOf (parabolicBracket 0·625) 0·625 ≡ half-gap 0·625) → ⊥)
+not-half-gap = ((λ e. half-not-one (sym (midway .0) ∙ e ∙ midway .2)), λ e. half-not-one (sym (midway .1) ∙ e ∙ midway .2))

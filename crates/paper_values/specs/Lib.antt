@@ -1,2 +1,2 @@
--- The values of document 01 that are theorems.
+-- The values of docs/REFERENCE.md, Values, that are theorems.
 pub mod Values

@@ -1,34 +1,35 @@
--- Document 01's "Values on either side", the starred ones: each row is a definition's answer and the answer that the document gives, and one theorem
--- computes them all. A layer above adds its rows to `starred`.
+-- The values of docs/REFERENCE.md, Values, that are shown by a theorem, the starred ones: each row is a definition's answer and the answer that is given there,
+-- and one theorem computes them all. A layer above adds its rows to `starred`.
 use Prim.Native.Nat.{ℕ}
 use mathlib.Core.Path.{_≡_, refl}
 use mathlib.Core.Bool.{false}
 use mathlib.Core.List.{List, [], _∷_, _++_, map}
 use lib.Ieee.{Float, binary64, nan, inf, add, sub, mul, div, sum, round, neg, lt, le, eq, ofBits, ofInt, isNan}
 use Rattle.elementary.specs.Arithmetic.{whole, bits}
-use Rattle.elementary.specs.Steps.{LN, POW, lnSteps, lnSum}
+use Rattle.elementary.specs.Steps.{LN, POW, powSteps, lnSteps, lnSum}
 use Rattle.elementary.specs.Split.{splitOf}
+use Rattle.elementary.specs.Tests.{between}
 use Rattle.aero_error.specs.declared.Coefficient.{Coefficient}
 use Rattle.aero_error.specs.declared.Coefficient.the-variants.{Value, Refused}
 use Rattle.aero_error.specs.Refusals.{numberOf, codeOf}
-use Rattle.aero_error.specs.Checks.{dimension, between}
-use Rattle.elementary.specs.Constants.{0·0, 0·5, 1·0}
-use Rattle.drag.specs.Constants.{0·0148, 0·12, 0·25, 0·8, 0·85, 3·0}
-use Rattle.drag.specs.Friction.{machChecked, turbulentFriction, criticalReynolds, roughnessLimited, incompressibleSkinFriction, compressible, skinFrictionCoefficient}
-use Rattle.drag.specs.Pressure.{baseDragCoefficient, boattailShare, boattailFactor, stagnationRatio, jointPressureDragCoefficient}
+use Rattle.aero_error.specs.Checks.{dimension}
+use Rattle.elementary.specs.Constants.{0·0, 0·5, 0·8, 1·0}
+use Rattle.drag.specs.Constants.{0·0148, 0·12, 0·25, 0·85, 3·0}
+use Rattle.drag.specs.Friction.{machChecked, turbulentFriction, criticalReynolds, incompressible, compressible, frictionOn, skinFrictionCoefficient}
+use Rattle.drag.specs.Pressure.{baseDrag, baseDragCoefficient, boattailShare, boattailFactor, stagnationRatio, jointPressureDragCoefficient}
 use Rattle.shapes.specs.declared.NoseShape.the-variants.{PowerSeries}
 use Rattle.stoney.specs.declared.StoneyNose.the-variants.{Ellipsoid}
 use Rattle.stoney.specs.Points.{points}
 use Rattle.stoney.specs.Lookup.{valueAndSlope, lookup, walk, before, line}
-use Rattle.nose_drag.specs.declared.PressureDragCurve.{PressureDragCurve}
-use Rattle.nose_drag.specs.declared.Curve.{Curve}
-use Rattle.nose_drag.specs.declared.Curve.the-variants.{Built, Refused as NotBuilt}
+use Rattle.nose_drag.specs.declared.curve.PressureDragCurve.{PressureDragCurve}
+use Rattle.nose_drag.specs.declared.builder.Curve.{Curve}
+use Rattle.nose_drag.specs.declared.builder.Curve.the-variants.{Built, Refused as NotBuilt}
 use Rattle.nose_drag.specs.Forms.{blunt, stagnationDragSlope}
 use Rattle.nose_drag.specs.Below.{fitted, fitWith, restWith, fitOf, quadraticAt}
 use Rattle.nose_drag.specs.Methods.{finenessScaledPressureDrag}
 use Rattle.nose_drag.specs.Curves.{coefficientOf, stepCurve, fromTransonic, newCurve, build, recorded}
 
--- an answer as the document writes it: a value, a curve, or a refusal's number and its code
+-- an answer as it is written there: a value, a curve, or a refusal's number and its code
 pub data Answer : Type 0 where
   value : Float → Answer
   curve : PressureDragCurve → Answer
@@ -71,7 +72,7 @@ drag-values =
     ∷ []
 
 drag-hold : map defined drag-values ≡ map given drag-values
-unfolding add sub mul div sum round neg lt le eq ofBits ofInt dimension machChecked turbulentFriction criticalReynolds roughnessLimited incompressibleSkinFriction compressible skinFrictionCoefficient baseDragCoefficient boattailShare boattailFactor
+unfolding add sub mul div sum round neg lt le eq ofBits ofInt dimension machChecked turbulentFriction criticalReynolds incompressible compressible frictionOn skinFrictionCoefficient baseDrag baseDragCoefficient boattailShare boattailFactor
 drag-hold = refl
 
 -- the ellipsoid's table at 0.8, 1.2 and 5
@@ -111,7 +112,7 @@ scaling-values =
     ∷ []
 
 scaling-hold : map defined scaling-values ≡ map given scaling-values
-unfolding add sub mul div sum round neg lt le eq ofBits ofInt dimension POW LN lnSteps lnSum splitOf finenessScaledPressureDrag criticalReynolds isNan
+unfolding add sub mul div sum round neg lt le eq ofBits ofInt dimension POW powSteps LN lnSteps lnSum splitOf finenessScaledPressureDrag criticalReynolds isNan
 scaling-hold = refl
 
 abbrev pub starred : List Row

@@ -1,4 +1,5 @@
-// Checks document 01's unstarred values by running: a line for each, compared with the file stdout. The starred ones are a theorem, in specs/.
+// Checks the last two rows of docs/REFERENCE.md, Values, by running: a line for each, compared with the file stdout. The others are a theorem,
+// in specs/.
 use aero_error::Coefficient;
 use drag::joint_pressure_drag_coefficient;
 use libc::STDOUT_FILENO;

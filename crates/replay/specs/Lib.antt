@@ -1,4 +1,3 @@
--- How a stored line is read, what an answer is on it, and what is counted.
-pub mod Fields
-pub mod Answers
+-- How a stored line is read, and what is counted.
+pub mod Words
 pub mod Counts

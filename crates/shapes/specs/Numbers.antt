@@ -1,4 +1,4 @@
--- Document 01's shape byte: "0 conical, 1 ogive, 2 elliptical, 3 power, 4 parabolic, 5 Haack".
+-- The shape byte of a part card (docs/REFERENCE.md, Cards): "0 conical, 1 ogive, 2 elliptical, 3 power, 4 parabolic, 5 Haack".
 use mathlib.Core.Bool.{cond}
 use Prim.Native.Nat.{ℕ}
 use lib.Dec.{eqb}

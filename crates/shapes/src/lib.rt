@@ -1,4 +1,5 @@
-// The shape of a nose cone (shapes.rs), with document 01's shape numbers. Nothing else of shapes.rs is here.
+// The shape of a nose cone (shapes.rs), with the shapes' numbers (docs/REFERENCE.md, Nose formulas). Nothing
+// else of shapes.rs is here.
 ghost use mathlib.Core.Path.{_≡_};
 ghost use Rattle.shapes.specs.Numbers.{numberOfShape, shapeOf, parameterOf};
 

@@ -1,10 +1,13 @@
-// The program `sheet` (document 01, "Cards"): card bytes on standard input, the lines of the sheet or
-// `refused N card K` on standard output. No byte past the 1252nd can change the answer, so no more
-// are read.
+// The program `sheet` (docs/REFERENCE.md, Program): card bytes on standard input, the lines of the
+// sheet or `refused N card K` on standard output. No byte past the first STREAM_BYTES can change the
+// answer, so no more are read.
+use card_run::STREAM_BYTES;
+use sheet_text::MOST_TEXT;
+
 fn main() {
-    let mut input = [0u8; 1252];
+    let mut input = [0u8; STREAM_BYTES];
     let n = io::read_full(0, &mut input);
-    let mut out = [0u8; 11033];
+    let mut out = [0u8; MOST_TEXT];
     let m = sheet_text::print_stream(&input[..n], &mut out);
     io::write_all(1, &out[..m]);
 }

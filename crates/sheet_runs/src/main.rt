@@ -2,9 +2,10 @@
 // the streams one after the other, each after its length in two bytes, low byte first;
 // `streams.py write > stdin` in this crate's folder makes it.
 ghost use Prim.Native.Nat.{_<_};
+use sheet_text::MOST_TEXT;
 
 fn show(s: &[u8]) {
-    let mut out = [0u8; 11033];
+    let mut out = [0u8; MOST_TEXT];
     let m = sheet_text::print_stream(s, &mut out);
     io::write_all(1, &out[..m]);
 }

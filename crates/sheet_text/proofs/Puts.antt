@@ -1,18 +1,21 @@
--- Texts that are put into a buffer one after the other, and how long they are. Assumes nothing.
+-- Texts that are put into a buffer one after the other, and how long they are.
 use mathlib.Core.Path.{_≡_, refl, sym, ap, _∙_}
 use mathlib.Core.Bool.{Bool, true, false, cond}
 use mathlib.Core.List.{List, [], _∷_, _++_, append-assoc}
 use Prim.Native.Nat.{ℕ, zero, suc, _+_, _-_, _*_, _/_, _%_, _≤_, _<_}
 use native.Mathlib.Numerals.{add-one}
-use native.Mathlib.Nat.{add-sub-cancel-left, suc-mul, mul-le-mul-right}
+use native.Mathlib.Nat.{add-sub-cancel-left, le-trans}
 use native.Mathlib.Omega.{arith}
-use lib.ListN.{length, set, take, drop, getD, length-append, length-drop, drop-of-length-le}
-use lib.Seq.{sets, set-comm, drop-cons, drop-drop, length-take-le, sets-eq, length-sets}
+use lib.ListN.{length, set, take, drop, getD, length-append, length-drop}
+use lib.Seq.{sets, set-comm, drop-cons, length-take-le, sets-eq, length-sets}
 use lib.Dec.{ltb}
 use borrow.Author.Tests.{lt-ltb, le-ltb}
 use lib.Ieee.{Float, toBits, binary64}
-use Rattle.sheet_text.specs.Bytes.{hexDigit, hexDigits, decimal, Put}
-use Rattle.sheet_text.specs.Text.{numberText, numbersText, lineText, part-name, partName, partLines, printed, Printed, answerText}
+use Rattle.sheet_data.specs.Layout.{most-columns, finishes, all-rows, needed}
+use Rattle.sheet_data.specs.Rows.{rowAt}
+use Rattle.sheet_data.specs.RowLaws.{room}
+use Rattle.sheet_text.specs.Bytes.{digits, space, line-feed, hexDigit, hexDigits, decimal, Put}
+use Rattle.sheet_text.specs.Text.{number-text, part-text, most-text, numberText, numbersText, lineText, part-name, partName, partLines, printed, Printed, answerText}
 
 -- two texts, one after the other
 pub sets-append : (vs ws xs : List ℕ) (i : ℕ) → sets xs i (vs ++ ws) ≡ sets (sets xs i vs) (i + length vs) ws
@@ -57,20 +60,20 @@ hex-step (suc n) x at xs h =
 
 -- ---- lengths
 
-pub number-long : (x : Float) → length (numberText x) ≡ 17
+pub number-long : (x : Float) → length (numberText x) ≡ number-text
 unfolding numberText
-number-long x = ap suc (hex-long 16 (toBits binary64 x))
+number-long x = ap suc (hex-long digits (toBits binary64 x))
 
-pub numbers-long : (xs : List Float) → length (numbersText xs) ≡ 17 * length xs
+pub numbers-long : (xs : List Float) → length (numbersText xs) ≡ number-text * length xs
 unfolding numbersText
 numbers-long [] = refl
 numbers-long (x ∷ xs) = let a = length-append (numberText x) (numbersText xs) in let b = number-long x in let c = numbers-long xs in omega (arith, a, b, c)
 
-pub line-long : (name : List ℕ) (xs : List Float) → length (lineText name xs) ≡ length name + 17 * length xs + 1
+pub line-long : (name : List ℕ) (xs : List Float) → length (lineText name xs) ≡ length name + number-text * length xs + 1
 unfolding lineText
 line-long name xs =
-    let a = length-append name (numbersText xs ++ (10 ∷ [])) in
-    let b = length-append (numbersText xs) (10 ∷ []) in
+    let a = length-append name (numbersText xs ++ (line-feed ∷ [])) in
+    let b = length-append (numbersText xs) (line-feed ∷ []) in
     let c = numbers-long xs in
     omega (arith, a, b, c)
 
@@ -82,26 +85,34 @@ decimal-long n = by-test (ltb n 10)
     by-test true = omega arith
     by-test false = omega arith
 
--- ---- a turn of a loop: what is left to put, after its first element is put
+-- ---- a loop that puts a text piece by piece
 
-pub name-step : (name xs : List ℕ) (at i : ℕ) → i < length name → sets xs at (drop i name) ≡ sets (set xs at (getD name i 0)) (at + 1) (drop (i + 1) name)
-name-step name xs at i h = rw (drop-cons name i 0 h, add-one at, add-one i)
+-- whatever puts the text that is left, from `at` on, puts the whole text, from `start` on
+pub record Putting (text xs : List ℕ) (start : ℕ) (left ys : List ℕ) (at : ℕ) : Type 0 where
+  pub same : length ys ≡ length xs
+  pub rest : (r : ℕ) (zs : List ℕ) → Put at left ys r zs → Put start text xs r zs
 
-pub numbers-step : (row : List Float) (xs : List ℕ) (at i : ℕ) (d : Float) → i < length row
-    → sets xs at (numbersText (drop i row)) ≡ sets (sets xs at (numberText (getD row i d))) (at + 17) (numbersText (drop (i + 1) row))
+pub none-put : (text xs : List ℕ) (start : ℕ) → Putting text xs start text xs start
+none-put text xs start = record { same = refl; rest = λ r zs p. p }
+
+module _ {text xs left ys : List ℕ} {start at : ℕ} (P : Putting text xs start left ys at) where
+  pub piece-put : (a b zs : List ℕ) (m : ℕ) → left ≡ a ++ b → Put at a ys m zs → length zs ≡ length ys → Putting text xs start b zs m
+  piece-put a b zs m e p l = record { same = l ∙ P .same; rest = λ r us q. P .rest r us (rw e (put-then at m r a b ys zs us p q)) }
+
+  pub all-put : left ≡ [] → Put start text xs at ys
+  all-put e = P .rest at ys (rw e (record { place = omega arith; bytes = refl }))
+
+pub first-byte : (name : List ℕ) (i : ℕ) → i < length name → drop i name ≡ (getD name i 0 ∷ []) ++ drop (i + 1) name
+first-byte name i h = rw (drop-cons name i 0 h, add-one i)
+
+pub first-number : (row : List Float) (i : ℕ) (d : Float) → i < length row → numbersText (drop i row) ≡ numberText (getD row i d) ++ numbersText (drop (i + 1) row)
 unfolding numbersText
-numbers-step row xs at i d h =
-    let x = getD row i d in
-    rw (drop-cons row i d h, add-one i)
-    (sets-append (numberText x) (numbersText (drop (suc i) row)) xs at ∙ ap (λ (k : ℕ). sets (sets xs at (numberText x)) (at + k) (numbersText (drop (suc i) row))) (number-long x))
+first-number row i d h = rw (drop-cons row i d h, add-one i)
 
--- nothing is left
-pub name-end : (name xs : List ℕ) (at i : ℕ) → length name ≤ i → sets xs at (drop i name) ≡ xs
-name-end name xs at i h = ap (sets xs at) (drop-of-length-le name h)
-
-pub numbers-end : (row : List Float) (xs : List ℕ) (at i : ℕ) → length row ≤ i → sets xs at (numbersText (drop i row)) ≡ xs
-unfolding numbersText
-numbers-end row xs at i h = ap (λ (r : List Float). sets xs at (numbersText r)) (drop-of-length-le row h)
+pub first-part : (n place C : ℕ) (cells : List Float) → 0 < n → partLines n place C cells ≡ lineText (partName place) (rowAt C cells place) ++ partLines (n - 1) (place + 1) C cells
+unfolding partLines
+first-part zero place C cells h = absurd (omega arith)
+first-part (suc n) place C cells h = let e : n ≡ suc n - 1 = omega arith in ap (λ (k : ℕ). lineText (partName place) (rowAt C cells place) ++ partLines k (place + 1) C cells) e
 
 -- ---- single texts
 
@@ -113,74 +124,44 @@ pub decimal-two : (n at : ℕ) (xs : List ℕ) → 10 ≤ n → Put at (decimal 
 unfolding decimal
 decimal-two n at xs h = rw (le-ltb n 10 h) (record { place = refl; bytes = rw (add-one at) })
 
-pub number-put : (at b r : ℕ) (x : Float) (xs ys : List ℕ) → b ≡ toBits binary64 x → Put (at + 1) (hexDigits 16 b) (set xs at 32) r ys → Put at (numberText x) xs r ys
+pub number-put : (at b r : ℕ) (x : Float) (xs ys : List ℕ) → b ≡ toBits binary64 x → Put (at + 1) (hexDigits digits b) (set xs at space) r ys → Put at (numberText x) xs r ys
 unfolding numberText
 number-put at b r x xs ys e p =
     record {
-      place = let k = number-long x in let l = hex-long 16 b in omega (arith, p .place, k, l);
-      bytes = p .bytes ∙ ap (λ (k : ℕ). sets (set xs at 32) k (hexDigits 16 b)) (add-one at) ∙ ap (λ (k : ℕ). sets (set xs at 32) (suc at) (hexDigits 16 k)) e;
+      place = let k = number-long x in let l = hex-long digits b in omega (arith, p .place, k, l);
+      bytes = p .bytes ∙ ap (λ (k : ℕ). sets (set xs at space) k (hexDigits digits b)) (add-one at) ∙ ap (λ (k : ℕ). sets (set xs at space) (suc at) (hexDigits digits k)) e;
     }
 
 -- ---- rows of the cells
 
--- the part of the cells that is lent for a row
-pub lent-row : (from C : ℕ) (cells : List Float) → take (from + C - from) (drop from cells) ≡ take C (drop from cells)
-lent-row from C cells = ap (λ (k : ℕ). take k (drop from cells)) (add-sub-cancel-left from C)
+-- a row lies within the cells
+pub row-within : (row C cells : ℕ) → row < all-rows finishes → needed C ≤ cells → row * C + C ≤ cells
+row-within row C cells h k = le-trans (room row (all-rows finishes) C h) k
+
+-- the cells from a row's first to its last
+pub row-cells : (from C : ℕ) (cells : List Float) → take (from + C - from) (drop from cells) ≡ take C (drop from cells)
+row-cells from C cells = ap (λ (k : ℕ). take k (drop from cells)) (add-sub-cancel-left from C)
 
 pub row-long : (from C : ℕ) (cells : List Float) → from + C ≤ length cells → length (take C (drop from cells)) ≡ C
 row-long from C cells h = length-take-le C (drop from cells) (simp length-drop (omega arith))
 
--- the row of a place below 16 lies among 16 rows
-pub row-fits : (place C : ℕ) → place < 16 → place * C + C ≤ 16 * C
-row-fits place C h = rw (suc-mul place C) at (mul-le-mul-right {m = suc place} {n = 16} C (omega arith))
-
--- a part's line has at most 552 bytes
-pub part-long : (place : ℕ) (row : List Float) → length row ≤ 32 → length (lineText (partName place) row) ≤ 552
+pub part-long : (place : ℕ) (row : List Float) → length row ≤ most-columns → length (lineText (partName place) row) ≤ part-text
 part-long place row h =
     let a = line-long (partName place) row in
     let b = length-append part-name (decimal place) in
     let d = decimal-long place in
     omega (arith, a, b, d)
 
--- the lines of the parts that are left, after the first of them is put
-module _ (n place C from : ℕ) (cells : List Float) where
-  line : List ℕ
-  line = lineText (partName place) (take C (drop from cells))
-
-  rest : List ℕ
-  rest = partLines (n - 1) (place + 1) C (drop (from + C) cells)
-
-  first-part : 0 < n → partLines n place C (drop from cells) ≡ line ++ rest
-  unfolding partLines line rest
-  first-part h = go n refl h
-    where
-      go : (m : ℕ) → m ≡ n → 0 < n → partLines m place C (drop from cells) ≡ line ++ rest
-      go zero e i = absurd (omega arith)
-      go (suc m) e i =
-          let d : m ≡ n - 1 = omega arith in
-          ap (λ (k : ℕ). line ++ partLines k (place + 1) C (drop C (drop from cells))) d
-          ∙ ap (λ (xs : List Float). line ++ partLines (n - 1) (place + 1) C xs) (drop-drop C from cells)
-
-  pub parts-step : 0 < n → (xs : List ℕ) (at : ℕ) → sets xs at (partLines n place C (drop from cells))
-      ≡ sets (sets xs at (lineText (partName place) (take C (drop from cells)))) (at + length (lineText (partName place) (take C (drop from cells)))) (partLines (n - 1) (place + 1) C (drop (from + C) cells))
-  unfolding line rest
-  parts-step h xs at = ap (sets xs at) (first-part h) ∙ sets-append line rest xs at
-
-  pub parts-length : 0 < n → length (partLines n place C (drop from cells))
-      ≡ length (lineText (partName place) (take C (drop from cells))) + length (partLines (n - 1) (place + 1) C (drop (from + C) cells))
-  unfolding line rest
-  parts-length h = ap length (first-part h) ∙ length-append line rest
-
 -- ---- a whole text
 
 -- a buffer that is too short
-pub printed-short : (s xs : List ℕ) → length xs < 11033 → Printed s xs 0 xs
-printed-short s xs h = let e : printed s (length xs) ≡ [] = rw (lt-ltb (length xs) 11033 h) in record { count = sym (ap length e); bytes = sym (ap (λ (t : List ℕ). t ++ drop (length t) xs) e); within = omega arith }
+pub printed-short : (s xs : List ℕ) → length xs < most-text → Printed s xs 0 xs
+printed-short s xs h = let e : printed s (length xs) ≡ [] = rw (lt-ltb (length xs) most-text h) in record { count = sym (ap length e); bytes = sym (ap (λ (t : List ℕ). t ++ drop (length t) xs) e); within = omega arith }
 
 -- a text at the start of a buffer that holds it
-pub printed-long : (s text xs ys : List ℕ) (r : ℕ) → 11033 ≤ length xs → text ≡ answerText s → Put 0 text xs r ys → r ≤ 11033 → Printed s xs r ys
+pub printed-long : (s text xs ys : List ℕ) (r : ℕ) → most-text ≤ length xs → text ≡ answerText s → Put 0 text xs r ys → r ≤ most-text → Printed s xs r ys
 printed-long s text xs ys r h e p k =
-    let f : printed s (length xs) ≡ text = rw (le-ltb (length xs) 11033 h) (sym e) in
+    let f : printed s (length xs) ≡ text = rw (le-ltb (length xs) most-text h) (sym e) in
     let z : 0 + length text ≡ length text = omega arith in
     let l : ys ≡ text ++ drop (length text) xs = p .bytes ∙ sets-eq text xs 0 (omega (arith, p .place)) ∙ ap (λ (n : ℕ). text ++ drop n xs) z in
     record {

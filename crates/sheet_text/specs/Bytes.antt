@@ -14,6 +14,10 @@ space = 32
 abbrev pub line-feed : ℕ
 line-feed = 10
 
+-- the hexadecimal digits of 64 bits
+abbrev pub digits : ℕ
+digits = 64 / 4
+
 -- the digits 0 to 9 are the bytes 48 to 57, a to f 97 to 102
 abbrev pub hexDigit : ℕ → ℕ
 hexDigit n = cond (ltb n 10) (48 + n) (87 + n)
@@ -27,7 +31,7 @@ hexDigits (suc n) x = hexDigits n (x / 16) ++ (hexDigit (x % 16) ∷ [])
 unfoldable pub decimal : ℕ → List ℕ
 decimal n = cond (ltb n 10) ((48 + n) ∷ []) ((48 + n / 10) ∷ (48 + n % 10) ∷ [])
 
--- the text stands in the buffer xs from `at` on, and the answer r is the place after it
+-- the text is in the buffer xs from `at` on, and the answer r is the place after it
 pub record Put (at : ℕ) (text : List ℕ) (xs : List ℕ) (r : ℕ) (ys : List ℕ) : Type 0 where
   pub place : r ≡ at + length text
   pub bytes : ys ≡ sets xs at text

@@ -1,4 +1,4 @@
--- The text of a sheet (document 01, "Values on either side"): "the Machs, the design's part rows, friction, base, total; a line is a name (for a part its place
+-- The text of a sheet (docs/REFERENCE.md, Program): "the Machs, the design's part rows, friction, base, total; a line is a name (for a part its place
 -- too), then per column a space and the bits"; or "only `refused N card K`".
 use mathlib.Core.Path.{_≡_}
 use mathlib.Core.Bool.{cond}
@@ -11,12 +11,13 @@ use Rattle.elementary.specs.Constants.{0·0}
 use Rattle.aero_error.specs.Refusals.{numberOf}
 use Rattle.aero_error.specs.declared.Check.{Check}
 use Rattle.aero_error.specs.declared.Check.the-variants.{Passed, Failed}
-use Rattle.drag_sheet.specs.Layout.{part-rows, base-row, summed-rows}
-use Rattle.drag_sheet.specs.Build.{machsOf}
-use Rattle.drag_sheet.specs.declared.Sheet.{Sheet}
-use Rattle.cards.specs.declared.Run.{Run}
-use Rattle.cards.specs.Run.{Ran, streamOf}
-use Rattle.sheet_text.specs.Bytes.{space, line-feed, hexDigits, decimal}
+use Rattle.sheet_data.specs.declared.Settings.{Settings}
+use Rattle.sheet_data.specs.declared.Sheet.{Sheet}
+use Rattle.sheet_data.specs.Layout.{most-parts, most-columns, most-cells, finishes, friction-row, base-row, total-row}
+use Rattle.sheet_data.specs.Rows.{rowAt}
+use Rattle.card_run.specs.declared.Run.{Run}
+use Rattle.card_run.specs.Run.{Ran, streamOf}
+use Rattle.sheet_text.specs.Bytes.{digits, space, line-feed, hexDigits, decimal}
 
 -- the names, in ASCII: mach, part and a space, friction, base, total, refused and a space, and card between two spaces
 abbrev pub mach-name : List ℕ
@@ -40,10 +41,10 @@ refused-name = 114 ∷ 101 ∷ 102 ∷ 117 ∷ 115 ∷ 101 ∷ 100 ∷ 32 ∷ []
 abbrev pub card-name : List ℕ
 card-name = 32 ∷ 99 ∷ 97 ∷ 114 ∷ 100 ∷ 32 ∷ []
 
--- "a space and the bits": 16 digits; a NaN as 7ff8000000000000
+-- "a space and the bits"; a NaN as 7ff8000000000000
 unfoldable pub numberText : Float → List ℕ
 unfolding hexDigits
-numberText x = space ∷ hexDigits 16 (toBits binary64 x)
+numberText x = space ∷ hexDigits digits (toBits binary64 x)
 
 -- "per column"
 unfoldable pub numbersText : List Float → List ℕ
@@ -59,20 +60,22 @@ lineText name xs = name ++ (numbersText xs ++ (line-feed ∷ []))
 abbrev pub partName : ℕ → List ℕ
 partName place = part-name ++ decimal place
 
--- the lines of n parts from a place on, whose rows of C cells lie one after the other
+-- the lines of n parts from a place on
 unfoldable pub partLines : ℕ → ℕ → ℕ → List Float → List ℕ
 unfolding lineText decimal
 partLines zero place C xs = []
-partLines (suc n) place C xs = lineText (partName place) (take C xs) ++ partLines n (place + 1) C (drop C xs)
-
--- a row of the cells
-abbrev pub rowOf : ℕ → ℕ → List Float → List Float
-rowOf row C xs = take C (drop (row * C) xs)
+partLines (suc n) place C xs = lineText (partName place) (rowAt C xs place) ++ partLines n (place + 1) C xs
 
 -- friction, base and total
 unfoldable pub bodyText : ℕ → List Float → List ℕ
 unfolding lineText
-bodyText C xs = lineText friction-name (rowOf part-rows C xs) ++ (lineText base-name (rowOf base-row C xs) ++ lineText total-name (rowOf summed-rows C xs))
+bodyText C xs =
+    lineText friction-name (rowAt C xs (friction-row 0))
+    ++ (lineText base-name (rowAt C xs (base-row finishes)) ++ lineText total-name (rowAt C xs (total-row finishes 0)))
+
+-- the settings' Mach numbers
+abbrev pub machsOf : Settings → List Float
+machsOf s = take (s .count) (s .machs)
 
 unfoldable pub sheetText : Sheet → List Float → List ℕ
 unfolding lineText partLines bodyText
@@ -93,21 +96,36 @@ outcomeText (Failed e) card sheet xs = refusedText (numberOf e) card
 abbrev pub runText : Run → List Float → List ℕ
 runText run xs = outcomeText (run .outcome) (run .card) (run .sheet) xs
 
--- what the program prints for a stream of bytes: the run starts on the 608 cells of the largest sheet, all +0
+-- what the program prints for a stream of bytes: the run starts on the cells of the largest sheet, all +0
 abbrev pub ranText : Ran → List ℕ
 ranText ran = runText (ran .run) (ran .cells)
 
 unfoldable pub answerText : List ℕ → List ℕ
 unfolding sheetText refusedText
-answerText s = ranText (streamOf s (replicate 608 0·0))
+answerText s = ranText (streamOf s (replicate most-cells 0·0))
 
--- no text has more bytes: a line of 32 columns has 552 at most, and the lines friction, base, total and mach 2201 in all
-abbrev pub most-bytes : ℕ
-most-bytes = 11033
+-- ---- how long a text can be
+
+-- a number, the numbers of a line with its end, a part's line, and the lines of the whole body
+abbrev pub number-text : ℕ
+number-text = 1 + digits
+
+abbrev pub row-text : ℕ
+row-text = most-columns * number-text + 1
+
+abbrev pub part-text : ℕ
+part-text = length part-name + 2 + row-text
+
+abbrev pub body-text : ℕ
+body-text = length friction-name + length base-name + length total-name + 3 * row-text
+
+-- no text has more bytes: the line mach, a line for each part, and those
+abbrev pub most-text : ℕ
+most-text = length mach-name + row-text + most-parts * part-text + body-text
 
 -- what the contract says of a buffer: one that holds every text has this text at its start, and a shorter one is left as it was
 abbrev pub printed : List ℕ → ℕ → List ℕ
-printed s room = cond (ltb room most-bytes) [] (answerText s)
+printed s room = cond (ltb room most-text) [] (answerText s)
 
 pub record Printed (s : List ℕ) (xs : List ℕ) (r : ℕ) (ys : List ℕ) : Type 0 where
   pub count : r ≡ length (printed s (length xs))

@@ -6,12 +6,33 @@ ghost use Prim.Native.Nat.{_+_, _*_, _≤_, _<_};
 ghost use lib.ListN.{length, take, drop};
 ghost use lib.Ieee.{toBits, binary64};
 ghost use Rattle.aero_error.specs.declared.Check.the-variants.{Passed};
-ghost use Rattle.cards.specs.Run.{Sized};
-ghost use Rattle.sheet_text.specs.Bytes.{line-feed, hexDigit, hexDigits, decimal, Put};
-ghost use Rattle.sheet_text.specs.Text.{numberText, numbersText, lineText, partName, partLines, bodyText, sheetText, refusedText, runText, Printed};
+ghost use Rattle.sheet_data.specs.Layout.{most-parts, most-columns, finishes, all-rows, needed};
+ghost use Rattle.sheet_data.specs.Contents.{Fits};
+ghost use Rattle.sheet_data.specs.Rows.{rowAt};
+ghost use Rattle.sheet_text.specs.Bytes.{digits, line-feed, hexDigit, hexDigits, decimal, Put};
+ghost use Rattle.sheet_text.specs.Text.{number-text, row-text, part-text, body-text, most-text, numberText, numbersText, lineText, partName, partLines, bodyText, sheetText, refusedText, runText, Printed};
 use aero_error::Check;
-use cards::Run;
-use drag_sheet::Sheet;
+use card_run::Run;
+use sheet_data::Sheet;
+use sheet_data::layout::BASE_ROW;
+use sheet_data::layout::CELLS;
+use sheet_data::layout::COLUMNS;
+use sheet_data::layout::FRICTION_ROW;
+use sheet_data::layout::PARTS;
+use sheet_data::layout::TOTAL_ROW;
+
+// The hexadecimal digits of 64 bits.
+const DIGITS: usize = 64 / 4;
+
+// The most bytes of the numbers of a line with its end, of a part's line, and of the lines friction, base and total.
+const ROW_TEXT: usize = COLUMNS * (1 + DIGITS) + 1;
+
+const PART_TEXT: usize = 5 + 2 + ROW_TEXT;
+
+const BODY_TEXT: usize = 8 + 4 + 5 + 3 * ROW_TEXT;
+
+// No text has more bytes: the line mach, a line for each part, and the lines of the whole body.
+pub const MOST_TEXT: usize = 4 + ROW_TEXT + PARTS * PART_TEXT + BODY_TEXT;
 
 // ---- bytes and numbers
 
@@ -25,19 +46,19 @@ fn hex_digit(n: u64) -> u8
     87 + n as u8
 }
 
-// 16 hexadecimal digits, from the last to the first.
+// The hexadecimal digits, from the last to the first.
 fn put_hex(x: u64, out: &mut [u8], at: usize) -> usize
-    requires { ⌜ at + 16 ≤ length (now out) ⌝ }
-    ensures { λ r. ⌜ Put at (hexDigits 16 x) (now (out .entry)) r (now (out .exit)) ⌝ }
+    requires { ⌜ at + digits ≤ length (now out) ⌝ }
+    ensures { λ r. ⌜ Put at (hexDigits digits x) (now (out .entry)) r (now (out .exit)) ⌝ }
 {
     let mut rest = x;
-    let mut n = 16usize;
+    let mut n = DIGITS;
     while 0 < n {
         n -= 1;
         out[at + n] = hex_digit(rest % 16);
         rest = rest / 16;
     }
-    at + 16
+    at + DIGITS
 }
 
 // A number below 100 in decimal.
@@ -80,7 +101,7 @@ fn put_line_feed(out: &mut [u8], at: usize) -> usize
 
 // A space and the bits.
 fn put_number(x: f64, out: &mut [u8], at: usize) -> usize
-    requires { ⌜ at + 17 ≤ length (now out) ⌝ }
+    requires { ⌜ at + number-text ≤ length (now out) ⌝ }
     ensures { λ r. ⌜ Put at (numberText x) (now (out .entry)) r (now (out .exit)) ⌝ }
 {
     out[at] = b' ';
@@ -88,7 +109,7 @@ fn put_number(x: f64, out: &mut [u8], at: usize) -> usize
 }
 
 fn put_numbers(row: &[f64], out: &mut [u8], start: usize) -> usize
-    requires { ⌜ start + 17 * length (now row) ≤ length (now out) ⌝ }
+    requires { ⌜ start + number-text * length (now row) ≤ length (now out) ⌝ }
     ensures { λ r. ⌜ Put start (numbersText (now (row .entry))) (now (out .entry)) r (now (out .exit)) ⌝ }
 {
     let mut at = start;
@@ -100,74 +121,81 @@ fn put_numbers(row: &[f64], out: &mut [u8], start: usize) -> usize
     at
 }
 
-// A name, the numbers of a row, and the end of the line.
+// The numbers of a row, and the end of the line.
+fn put_cells(row: &[f64], out: &mut [u8], at: usize) -> usize
+    requires { ⌜ at + number-text * length (now row) + 1 ≤ length (now out) ⌝ }
+    ensures { λ r. ⌜ Put at (numbersText (now (row .entry)) ++ (line-feed ∷ [])) (now (out .entry)) r (now (out .exit)) ⌝ }
+{
+    let numbered = put_numbers(row, out, at);
+    put_line_feed(out, numbered)
+}
+
+// A name, and the numbers of a row.
 fn put_line(name: &[u8], row: &[f64], out: &mut [u8], at: usize) -> usize
-    requires { ⌜ (length (now row) ≤ 32) × (at + length (now name) + 17 * length (now row) + 1 ≤ length (now out)) ⌝ }
+    requires { ⌜ (length (now row) ≤ most-columns) × (at + length (now name) + number-text * length (now row) + 1 ≤ length (now out)) ⌝ }
     ensures { λ r. ⌜ Put at (lineText (now (name .entry)) (now (row .entry))) (now (out .entry)) r (now (out .exit)) ⌝ }
 {
     let named = put_name(name, out, at);
-    let numbered = put_numbers(row, out, named);
-    put_line_feed(out, numbered)
+    put_cells(row, out, named)
 }
 
 // The line of the part at a place.
 fn put_part(place: usize, row: &[f64], out: &mut [u8], at: usize) -> usize
-    requires { ⌜ (place < 100) × (length (now row) ≤ 32) × (at + 17 * length (now row) + 8 ≤ length (now out)) ⌝ }
+    requires { ⌜ (place < 100) × (length (now row) ≤ most-columns) × (at + number-text * length (now row) + 8 ≤ length (now out)) ⌝ }
     ensures { λ r. ⌜ Put at (lineText (partName place) (now (row .entry))) (now (out .entry)) r (now (out .exit)) ⌝ }
 {
     let named = put_name(b"part ", out, at);
     let placed = put_decimal(place, out, named);
-    let numbered = put_numbers(row, out, placed);
-    put_line_feed(out, numbered)
+    put_cells(row, out, placed)
 }
 
 // The lines of the design's parts.
 fn put_parts(count: usize, columns: usize, cells: &[f64], out: &mut [u8], start: usize) -> usize
-    requires { ⌜ (count ≤ 16) × (columns ≤ 32) × (16 * columns ≤ length (now cells)) × (start + 552 * count ≤ length (now out)) ⌝ }
-    ensures { λ r. ⌜ Put start (partLines count 0 columns (now (cells .entry))) (now (out .entry)) r (now (out .exit)) × (r ≤ start + 552 * count) ⌝ }
+    requires { ⌜ (count ≤ most-parts) × (columns ≤ most-columns) × (needed columns ≤ length (now cells)) × (start + part-text * count ≤ length (now out)) ⌝ }
+    ensures { λ r. ⌜ Put start (partLines count 0 columns (now (cells .entry))) (now (out .entry)) r (now (out .exit)) × (r ≤ start + part-text * count) ⌝ }
 {
     let mut at = start;
-    let mut from = 0usize;
     let mut place = 0usize;
     while place < count {
+        let from = place * columns;
         let end = from + columns;
         at = put_part(place, &cells[from..end], out, at);
-        from = end;
         place += 1;
     }
     at
 }
 
-// The row of the cells that starts at `from`, under its name.
+// A row of the cells, under its name.
 fn put_row(
     name: &[u8],
-    from: usize,
+    row: usize,
     columns: usize,
     cells: &[f64],
     out: &mut [u8],
     at: usize,
 ) -> usize
-    requires { ⌜ (columns ≤ 32) × (from + columns ≤ length (now cells)) × (at + length (now name) + 545 ≤ length (now out)) ⌝ }
-    ensures { λ r. ⌜ Put at (lineText (now (name .entry)) (take columns (drop from (now (cells .entry))))) (now (out .entry)) r (now (out .exit)) × (r ≤ at + length (now (name .entry)) + 545) ⌝ }
+    requires { ⌜ (row < all-rows finishes) × (columns ≤ most-columns) × (needed columns ≤ length (now cells)) × (at + length (now name) + row-text ≤ length (now out)) ⌝ }
+    ensures { λ r. ⌜ Put at (lineText (now (name .entry)) (rowAt columns (now (cells .entry)) row)) (now (out .entry)) r (now (out .exit)) × (r ≤ at + length (now (name .entry)) + row-text) ⌝ }
 {
+    let from = row * columns;
     let end = from + columns;
     put_line(name, &cells[from..end], out, at)
 }
 
 // Friction, base and total.
 fn put_body(columns: usize, cells: &[f64], out: &mut [u8], at: usize) -> usize
-    requires { ⌜ (columns ≤ 32) × (19 * columns ≤ length (now cells)) × (at + 1652 ≤ length (now out)) ⌝ }
-    ensures { λ r. ⌜ Put at (bodyText columns (now (cells .entry))) (now (out .entry)) r (now (out .exit)) × (r ≤ at + 1652) ⌝ }
+    requires { ⌜ (columns ≤ most-columns) × (needed columns ≤ length (now cells)) × (at + body-text ≤ length (now out)) ⌝ }
+    ensures { λ r. ⌜ Put at (bodyText columns (now (cells .entry))) (now (out .entry)) r (now (out .exit)) × (r ≤ at + body-text) ⌝ }
 {
-    let friction = put_row(b"friction", 16 * columns, columns, cells, out, at);
-    let base = put_row(b"base", 17 * columns, columns, cells, out, friction);
-    put_row(b"total", 18 * columns, columns, cells, out, base)
+    let friction = put_row(b"friction", FRICTION_ROW, columns, cells, out, at);
+    let base = put_row(b"base", BASE_ROW, columns, cells, out, friction);
+    put_row(b"total", TOTAL_ROW, columns, cells, out, base)
 }
 
 // All the lines of a sheet.
 fn put_sheet(sheet: Sheet, cells: &[f64], out: &mut [u8]) -> usize
-    requires { ⌜ Sized sheet (length (now cells)) × (11033 ≤ length (now out)) ⌝ }
-    ensures { λ r. ⌜ Put 0 (sheetText sheet (now (cells .entry))) (now (out .entry)) r (now (out .exit)) × (r ≤ 11033) ⌝ }
+    requires { ⌜ Fits sheet (length (now cells)) × (most-text ≤ length (now out)) ⌝ }
+    ensures { λ r. ⌜ Put 0 (sheetText sheet (now (cells .entry))) (now (out .entry)) r (now (out .exit)) × (r ≤ most-text) ⌝ }
 {
     let settings = sheet.settings;
     let design = sheet.design;
@@ -181,8 +209,8 @@ fn put_sheet(sheet: Sheet, cells: &[f64], out: &mut [u8]) -> usize
 
 // `refused N card K`.
 fn put_refusal(number: usize, card: usize, out: &mut [u8]) -> usize
-    requires { ⌜ (number < 100) × (card < 100) × (11033 ≤ length (now out)) ⌝ }
-    ensures { λ r. ⌜ Put 0 (refusedText number card) (now (out .entry)) r (now (out .exit)) × (r ≤ 11033) ⌝ }
+    requires { ⌜ (number < 100) × (card < 100) × (most-text ≤ length (now out)) ⌝ }
+    ensures { λ r. ⌜ Put 0 (refusedText number card) (now (out .entry)) r (now (out .exit)) × (r ≤ most-text) ⌝ }
 {
     let refused = put_name(b"refused ", out, 0);
     let numbered = put_decimal(number, out, refused);
@@ -193,8 +221,8 @@ fn put_refusal(number: usize, card: usize, out: &mut [u8]) -> usize
 
 // The text of a run's answer.
 fn put_run(run: Run, cells: &[f64], out: &mut [u8]) -> usize
-    requires { ⌜ (run .card ≤ 17) × (run .outcome ≡ Passed → Sized (run .sheet) (length (now cells))) × (11033 ≤ length (now out)) ⌝ }
-    ensures { λ r. ⌜ Put 0 (runText run (now (cells .entry))) (now (out .entry)) r (now (out .exit)) × (r ≤ 11033) ⌝ }
+    requires { ⌜ (run .card ≤ most-parts + 1) × (run .outcome ≡ Passed → Fits (run .sheet) (length (now cells))) × (most-text ≤ length (now out)) ⌝ }
+    ensures { λ r. ⌜ Put 0 (runText run (now (cells .entry))) (now (out .entry)) r (now (out .exit)) × (r ≤ most-text) ⌝ }
 {
     let outcome = run.outcome;
     let sheet = run.sheet;
@@ -204,15 +232,15 @@ fn put_run(run: Run, cells: &[f64], out: &mut [u8]) -> usize
     }
 }
 
-// What `sheet` prints for a stream of bytes, put at the start of a buffer of 11033 bytes or more; the
-// answer is how many bytes the text has.
+// What `sheet` prints for a stream of bytes, put at the start of a buffer of MOST_TEXT bytes or more;
+// the answer is how many bytes the text has.
 pub fn print_stream(s: &[u8], out: &mut [u8]) -> usize
     ensures { λ r. ⌜ Printed (now (s .entry)) (now (out .entry)) r (now (out .exit)) ⌝ }
 {
-    if out.len() < 11033 {
+    if out.len() < MOST_TEXT {
         return 0;
     }
-    let mut cells = [0.0; 608];
-    let run = cards::run_stream(s, &mut cells);
+    let mut cells = [0.0; CELLS];
+    let run = card_run::run_stream(s, &mut cells);
     put_run(run, &cells, out)
 }

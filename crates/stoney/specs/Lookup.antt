@@ -4,10 +4,14 @@ use mathlib.Core.Bool.{cond}
 use mathlib.Core.List.{List, [], _∷_}
 use lib.Ieee.{Float}
 use Rattle.elementary.specs.Arithmetic.{_⊕_, _⊖_, _⊗_, _⊘_, _≺_, _≼_, bits}
-use Rattle.drag.specs.Constants.{SUBSONIC-MACH-LIMIT}
+use Rattle.elementary.specs.Constants.{0·8}
 use Rattle.stoney.specs.declared.StoneyNose.{StoneyNose}
 use Rattle.stoney.specs.declared.ValueAndSlope.{ValueAndSlope}
 use Rattle.stoney.specs.Points.{Point, points, no-point}
+
+-- the top of the subsonic region (Niskanen 2009, Table 3.1)
+abbrev pub SUBSONIC-MACH-LIMIT : Float
+SUBSONIC-MACH-LIMIT = 0·8
 
 -- below the first point: a table that starts above Mach 0.8 is run down in a straight line to 0 at Mach 0.8 and is 0 before it; any other holds its first value
 unfoldable pub before : Point → Float → ValueAndSlope

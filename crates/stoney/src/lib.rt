@@ -5,7 +5,10 @@ ghost use Rattle.stoney.specs.Tables.{noseAt};
 ghost use Rattle.stoney.specs.Points.{machAt, dragAt, rangeOf, firstMach};
 ghost use Rattle.stoney.specs.Lookup.{before, line, lookup, valueAndSlope};
 ghost use Rattle.stoney.specs.Stored.{Stored, stretch};
-use drag::SUBSONIC_MACH_LIMIT;
+
+// The top of the subsonic region, where the transonic methods start (Niskanen 2009, Table 3.1, p. 47), and where a table that starts
+// above it is run down to 0.
+pub const SUBSONIC_MACH_LIMIT: f64 = 0.8;
 
 // How many points the nine tables hold.
 pub const POINTS: usize = 149;
@@ -408,7 +411,7 @@ fn before_first(m: f64, c: f64, mach: f64) -> ValueAndSlope
 }
 
 // On the line from (m0, c0) to (m1, c1).
-fn between(m0: f64, c0: f64, m1: f64, c1: f64, mach: f64) -> ValueAndSlope
+fn on_line(m0: f64, c0: f64, m1: f64, c1: f64, mach: f64) -> ValueAndSlope
     ensures { λ r. ⌜ r ≡ line (record { mach = m0; drag = c0 }) (record { mach = m1; drag = c1 }) mach ⌝ }
 {
     let slope = (c1 - c0) / (m1 - m0);
@@ -439,7 +442,7 @@ fn walk_points(
         let m1 = machs[first + place];
         let c1 = drags[first + place];
         if mach < m1 {
-            return between(m0, c0, m1, c1, mach);
+            return on_line(m0, c0, m1, c1, mach);
         }
         m0 = m1;
         c0 = c1;

@@ -1,5 +1,5 @@
 -- `is_dimension` meets its contract: each way through the tests ends in what the definition is there.
--- Assumes nothing.
+--
 use borrow.Author.Needs.{needs}
 use Rattle.aero_error.specs.Checks.{dimension}
 use Rattle.aero_error.proofs.is_dimension.Statement.{statement}

@@ -1,5 +1,4 @@
 -- `require` meets its contract: each arm returns what the definition picks where the test is as that arm found it.
--- Assumes nothing.
 use Rattle.aero_error.proofs.require.Statement.{statement}
 use Rattle.aero_error.proofs.require.Tie as tie
 

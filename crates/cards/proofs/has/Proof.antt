@@ -15,12 +15,9 @@ returns c =
     let h : length (a .s .now) < a .at + a .n = omega arith in
     sym (lt-leb _ _ h)
 
-sub-result : tie.Need-sub-result
-sub-result c = search needs
-
 returns-2 : tie.Need-returns-2
 returns-2 c =
     let a = c .before .args in leb-move (a .at) (a .n) _ (c .if1 .left)
 
 pub has-spec : {M : Type 1} → statement M
-has-spec = tie.close (tie.spec returns sub-result returns-2)
+has-spec = tie.close (tie.spec returns (λ c. search needs) returns-2)

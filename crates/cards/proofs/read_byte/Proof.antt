@@ -8,21 +8,17 @@ use borrow.Author.Needs.{needs}
 use Rattle.cards.proofs.read_byte.Statement.{statement}
 use Rattle.cards.proofs.read_byte.Tie as tie
 
--- the byte stands
-
-stands : (c : tie.Then2) → let a = c .before .before .before .before .args in a .at + 1 ≤ length (a .s .now)
-stands c = leb-true _ _ (sym (c .before .has .ensures) ∙ c .if2 .taken)
-
-has-requires : tie.Need-has-requires
-has-requires c κs = search needs
+-- the byte is there
+there : (c : tie.Then2) → let a = c .before .before .before .before .args in a .at + 1 ≤ length (a .s .now)
+there c = leb-true _ _ (sym (c .before .has .ensures) ∙ c .if2 .taken)
 
 shared-slice-read-t7 : tie.Need-shared-slice-read-t7
 shared-slice-read-t7 c =
-    let h = stands (c .before) in omega (arith, h)
+    let h = there (c .before) in omega (arith, h)
 
 add-t8 : tie.Need-add-t8
 add-t8 c =
-    let h = stands (c .before) in omega (arith, h)
+    let h = there (c .before) in omega (arith, h)
 
 returns : tie.Need-returns
 returns c =
@@ -37,5 +33,4 @@ returns-3 c =
     simp (c .if1 .left)
 
 pub read-byte-spec : {M : Type 1} → statement M
-read-byte-spec =
-    tie.close (tie.spec has-requires shared-slice-read-t7 add-t8 returns returns-2 returns-3)
+read-byte-spec = tie.close (tie.spec (λ c κs. search needs) shared-slice-read-t7 add-t8 returns returns-2 returns-3)

@@ -4,25 +4,22 @@ use lib.ListN.{length}
 use native.Mathlib.Omega.{arith}
 use mathlib.Core.Path.{sym, _∙_}
 use borrow.Author.Tests.{leb-true}
+use Rattle.cards.specs.Fields.{number-bytes}
 use borrow.Author.Needs.{needs}
 use Rattle.cards.proofs.read_number.Statement.{statement}
 use Rattle.cards.proofs.read_number.Tie as tie
 
--- the eight bytes stand
-
-stands : (c : tie.Then2) → let a = c .before .before .before .before .args in a .at + 8 ≤ length (a .s .now)
-stands c = leb-true _ _ (sym (c .before .has .ensures) ∙ c .if2 .taken)
-
-has-requires : tie.Need-has-requires
-has-requires c κs = search needs
+-- the bytes are there
+there : (c : tie.Then2) → let a = c .before .before .before .before .args in a .at + number-bytes ≤ length (a .s .now)
+there c = leb-true _ _ (sym (c .before .has .ensures) ∙ c .if2 .taken)
 
 number-at-requires : tie.Need-number-at-requires
 number-at-requires c κs =
-    stands c
+    there c
 
 add-t7 : tie.Need-add-t7
 add-t7 c =
-    let h = stands (c .before) in omega (arith, h)
+    let h = there (c .before) in omega (arith, h)
 
 returns : tie.Need-returns
 returns c =
@@ -37,5 +34,4 @@ returns-3 c =
     simp (c .if1 .left)
 
 pub read-number-spec : {M : Type 1} → statement M
-read-number-spec =
-    tie.close (tie.spec has-requires number-at-requires add-t7 returns returns-2 returns-3)
+read-number-spec = tie.close (tie.spec (λ c κs. search needs) number-at-requires add-t7 returns returns-2 returns-3)

@@ -22,34 +22,6 @@ unfolding numbersAt
 loop-holds c =
     (omega arith, refl)
 
-mul-number-at : tie.Need-mul-number-at Inv-loop μ-loop
-mul-number-at c =
-    omega arith
-
-add-number-at : tie.Need-add-number-at Inv-loop μ-loop
-add-number-at c =
-    omega arith
-
-number-at-requires : tie.Need-number-at-requires Inv-loop μ-loop
-number-at-requires c κs =
-    omega arith
-
-mul-out : tie.Need-mul-out Inv-loop μ-loop
-mul-out c =
-    omega arith
-
-array-write-out : tie.Need-array-write-out Inv-loop μ-loop
-array-write-out c =
-    omega arith
-
-add-i : tie.Need-add-i Inv-loop μ-loop
-add-i c =
-    omega arith
-
-loop-less : tie.Need-loop-less Inv-loop μ-loop
-loop-less c =
-    omega arith
-
 loop-again : tie.Need-loop-again Inv-loop μ-loop
 loop-again c =
     let a = c .before .before .before .before .args in
@@ -68,15 +40,5 @@ pub read-numbers-spec : {M : Type 1} → statement M
 read-numbers-spec =
     tie.close
     (tie.spec
-    Inv-loop
-    μ-loop
-    loop-holds
-    mul-number-at
-    add-number-at
-    number-at-requires
-    mul-out
-    array-write-out
-    add-i
-    loop-less
-    loop-again
-    returns)
+    Inv-loop μ-loop loop-holds (λ c. omega arith) (λ c. omega arith) (λ c κs. omega arith) (λ c. omega arith) (λ c. omega arith)
+    (λ c. omega arith) (λ c. omega arith) loop-again returns)

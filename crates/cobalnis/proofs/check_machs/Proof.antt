@@ -1,78 +1,41 @@
--- `cobalnis::check_machs` meets its contract.
-use lib.Ieee.{nan}
-use lib.ListN.{drop-of-length-le}
-use mathlib.Core.Path.{_≡_, refl, sym, ap, _∙_}
+-- `check_machs` meets its contract: the Machs before i have passed.
+use mathlib.Core.Path.{_≡_, sym, _∙_}
 use Prim.Native.Nat.{_-_, _≤_}
 use native.Mathlib.Omega.{arith}
-use lib.ListN.{length, drop}
+use lib.ListN.{length, getD}
+use lib.Ieee.{nan}
+use Rattle.aero_error.specs.declared.Check.the-variants.{Passed}
+use Rattle.aero_error.specs.Checks.{upTo}
+use Rattle.aero_error.specs.CheckLaws.{up-none, up-more, up-failed, up-end}
+use Rattle.drag.specs.Friction.{machChecked}
 use Rattle.cobalnis.specs.Answers.{machsTest}
-use Rattle.cobalnis.proofs.Turns.{machs-at}
 use borrow.Author.Needs.{needs}
 use Rattle.cobalnis.proofs.check_machs.Statement.{statement}
 use Rattle.cobalnis.proofs.check_machs.Tie as tie
 
 abbrev Inv-loop : tie.InvT-loop
-Inv-loop machs i₀ i = (i ≤ length machs) × (machsTest machs ≡ machsTest (drop i machs))
+Inv-loop machs i₀ i = (i ≤ length machs) × (upTo i (λ k. machChecked (getD machs k nan)) ≡ Passed)
 
 abbrev μ-loop : tie.MeasureT-loop
 μ-loop machs i₀ i = length machs - i
 
-loop-holds : tie.Need-loop-holds Inv-loop μ-loop
-loop-holds c = (omega arith, refl)
-
-mul-check-mach-any : tie.Need-mul-check-mach-any Inv-loop μ-loop
-mul-check-mach-any c = omega arith
-
-shared-slice-read-check-mach-any : tie.Need-shared-slice-read-check-mach-any Inv-loop μ-loop
-shared-slice-read-check-mach-any c = omega arith
-
-check-mach-any-requires : tie.Need-check-mach-any-requires Inv-loop μ-loop
-check-mach-any-requires c κs = search needs
-
-enum-told : tie.Need-enum-told Inv-loop μ-loop
-enum-told c = search needs
-
-enum-told-2 : tie.Need-enum-told-2 Inv-loop μ-loop
-enum-told-2 c = search needs
-
 returns : tie.Need-returns Inv-loop μ-loop
+unfolding machsTest
 returns c =
-    let machs = c .before .before .before .before .before .before .before .args .machs .now in
     let l = c .before .before .before .before .before .loop in
-    sym (l .inv .1 ∙ machs-at machs (l .i) nan (c .before .before .before .before .loop-test .taken) ∙ rw (← c .before .before .check-mach-any .ensures, c .enum-told2 .given .1))
-
-add-i : tie.Need-add-i Inv-loop μ-loop
-add-i c = omega arith
-
-loop-less : tie.Need-loop-less Inv-loop μ-loop
-loop-less c = omega arith
+    c .enum-told2 .given .1 ∙ sym (up-failed _ _ _ _ (l .inv .1) (sym (c .before .before .check-mach-any .ensures) ∙ c .enum-told2 .given .1) (c .before .before .before .before .loop-test .taken))
 
 loop-again : tie.Need-loop-again Inv-loop μ-loop
 loop-again c =
-    let machs = c .before .before .before .before .before .before .before .args .machs .now in
-    let l = c .before .before .before .before .before .loop in
-    (omega arith, l .inv .1 ∙ machs-at machs (l .i) nan (c .before .before .before .before .loop-test .taken) ∙ rw (← c .before .before .check-mach-any .ensures, c .enum-told .given .1))
+    (omega arith, up-more _ (c .before .before .before .before .before .loop .inv .1) (sym (c .before .before .check-mach-any .ensures) ∙ c .enum-told .given .1))
 
 returns-2 : tie.Need-returns-2 Inv-loop μ-loop
 unfolding machsTest
-returns-2 c =
-    let machs = c .before .before .before .args .machs .now in
-    sym (c .before .loop .inv .1 ∙ ap machsTest (drop-of-length-le machs (c .loop-test .left)))
+returns-2 c = up-end _ (omega arith) (omega arith) (c .before .loop .inv .1)
 
 pub check-machs-spec : {M : Type 1} → statement M
 check-machs-spec =
     tie.close
     (tie.spec
-    Inv-loop
-    μ-loop
-    loop-holds
-    mul-check-mach-any
-    shared-slice-read-check-mach-any
-    check-mach-any-requires
-    enum-told
-    enum-told-2
-    returns
-    add-i
-    loop-less
-    loop-again
-    returns-2)
+    Inv-loop μ-loop (λ c. (omega arith, up-none _)) (λ c. omega arith) (λ c. omega arith) (λ c κs. search needs) (λ c. search needs)
+    (λ c. search needs) returns (λ c. omega arith) (λ c. omega arith) loop-again returns-2)

@@ -11,18 +11,6 @@ use Rattle.cobalnis.proofs.cobalnis_check_dimension.Tie as tie
 returns : tie.Need-returns
 returns c = let k = eq-eqb _ _ (c .if1 .taken) in (simp k, simp k)
 
-quantity-of-requires : tie.Need-quantity-of-requires
-quantity-of-requires c κs = search needs
-
-check-dimension-requires : tie.Need-check-dimension-requires
-check-dimension-requires c κs = search needs
-
-tested-requires : tie.Need-tested-requires
-tested-requires c κs = search needs
-
-hand-out-requires : tie.Need-hand-out-requires
-hand-out-requires c κs = search needs
-
 returns-2 : tie.Need-returns-2
 returns-2 c =
     let s = c .before .before .before .before .before .before .before in
@@ -42,10 +30,4 @@ pub cobalnis-check-dimension-spec : {M : Type 1} → statement M
 cobalnis-check-dimension-spec =
     tie.close
     (tie.spec
-    returns
-    quantity-of-requires
-    check-dimension-requires
-    tested-requires
-    hand-out-requires
-    returns-2
-    returns-3)
+    returns (λ c κs. search needs) (λ c κs. search needs) (λ c κs. search needs) (λ c κs. search needs) returns-2 returns-3)

@@ -8,15 +8,6 @@ use borrow.Author.Needs.{needs}
 use Rattle.cobalnis.proofs.cobalnis_nose_point.Statement.{statement}
 use Rattle.cobalnis.proofs.cobalnis_nose_point.Tie as tie
 
-of-number-requires : tie.Need-of-number-requires
-of-number-requires c κs = search needs
-
-points-requires : tie.Need-points-requires
-points-requires c κs = search needs
-
-status-of-requires : tie.Need-status-of-requires
-status-of-requires c κs = search needs
-
 returns : tie.Need-returns
 returns c =
     let k = le-leb _ _ (c .before .before .before .before .before .if1 .taken) in
@@ -31,18 +22,6 @@ add-at c =
     let first = ap (λ (p : PointRange). p .first) r in
     let count = ap (λ (p : PointRange). p .count) r in
     omega (arith, h, first, count, c .before .if2 .left)
-
-mach-at-requires : tie.Need-mach-at-requires
-mach-at-requires c κs = search needs
-
-to-bits-requires : tie.Need-to-bits-requires
-to-bits-requires c κs = search needs
-
-drag-at-requires : tie.Need-drag-at-requires
-drag-at-requires c κs = search needs
-
-to-bits-requires-2 : tie.Need-to-bits-requires-2
-to-bits-requires-2 c κs = search needs
 
 returns-2 : tie.Need-returns-2
 returns-2 c =
@@ -59,14 +38,5 @@ pub cobalnis-nose-point-spec : {M : Type 1} → statement M
 cobalnis-nose-point-spec =
     tie.close
     (tie.spec
-    of-number-requires
-    points-requires
-    status-of-requires
-    returns
-    add-at
-    mach-at-requires
-    to-bits-requires
-    drag-at-requires
-    to-bits-requires-2
-    returns-2
-    returns-3)
+    (λ c κs. search needs) (λ c κs. search needs) (λ c κs. search needs) returns add-at (λ c κs. search needs) (λ c κs. search needs)
+    (λ c κs. search needs) (λ c κs. search needs) returns-2 returns-3)

@@ -5,42 +5,18 @@ use borrow.Author.Needs.{needs}
 use Rattle.cobalnis.proofs.cobalnis_set_column.Statement.{statement}
 use Rattle.cobalnis.proofs.cobalnis_set_column.Tie as tie
 
-shapes-stand-requires : tie.Need-shapes-stand-requires
-shapes-stand-requires c κs = search needs
-
-sheet-of-requires : tie.Need-sheet-of-requires
-sheet-of-requires c κs = search needs
-
-set-column-requires : tie.Need-set-column-requires
-set-column-requires c κs = search needs
-
-show-requires : tie.Need-show-requires
-show-requires c κs = search needs
-
-same-length : tie.Need-same-length
-same-length c = search needs
-
 returns : tie.Need-returns
 returns c =
     let called = c .before .before .before .before .before .set-column in
-    simp (← c .before .before .before .before .before .before .before .before .before .before .shapes-stand .ensures, c .before .before .before .before .before .before .before .before .before .if1 .taken)
+    simp (← c .before .before .before .before .before .before .before .before .before .before .shapes-known .ensures, c .before .before .before .before .before .before .before .before .before .if1 .taken)
     (record { answer = called .result; called = simp (← c .before .before .before .before .before .before .before .sheet-of .ensures) (called .ensures); shown = c .show .ensures })
 
-refuse-requires : tie.Need-refuse-requires
-refuse-requires c κs = search needs
-
 returns-2 : tie.Need-returns-2
-returns-2 c = simp (← c .before .before .before .shapes-stand .ensures, c .before .before .if1 .left) (c .refuse .ensures .0, refl, c .refuse .ensures .1 ∙ zero-bits, refl)
+returns-2 c = simp (← c .before .before .before .shapes-known .ensures, c .before .before .if1 .left) (c .refuse .ensures .0, refl, c .refuse .ensures .1 ∙ zero-bits, refl)
 
 pub cobalnis-set-column-spec : {M : Type 1} → statement M
 cobalnis-set-column-spec =
     tie.close
     (tie.spec
-    shapes-stand-requires
-    sheet-of-requires
-    set-column-requires
-    show-requires
-    same-length
-    returns
-    refuse-requires
-    returns-2)
+    (λ c κs. search needs) (λ c κs. search needs) (λ c κs. search needs) (λ c κs. search needs) (λ c. search needs) returns
+    (λ c κs. search needs) returns-2)

@@ -4,18 +4,6 @@ use borrow.Author.Needs.{needs}
 use Rattle.cobalnis.proofs.show.Statement.{statement}
 use Rattle.cobalnis.proofs.show.Tie as tie
 
-enum-told : tie.Need-enum-told
-enum-told c = search needs
-
-sheet-words-requires : tie.Need-sheet-words-requires
-sheet-words-requires c κs = search needs
-
-enum-known-outcome : tie.Need-enum-known-outcome
-enum-known-outcome c = search needs
-
-refuse-requires : tie.Need-refuse-requires
-refuse-requires c κs = search needs
-
 returns : tie.Need-returns
 returns c = simp (c .before .enum-told .given .1) (refl, c .sheet-words .ensures, refl)
 
@@ -23,6 +11,4 @@ returns-2 : tie.Need-returns-2
 returns-2 c = simp (c .before .before .before .outcome .given .1) (c .refuse .ensures .0, refl, c .refuse .ensures .1)
 
 pub show-spec : {M : Type 1} → statement M
-show-spec =
-    tie.close
-    (tie.spec enum-told sheet-words-requires enum-known-outcome refuse-requires returns returns-2)
+show-spec = tie.close (tie.spec (λ c. search needs) (λ c κs. search needs) (λ c. search needs) (λ c κs. search needs) returns returns-2)

@@ -3,12 +3,6 @@ use borrow.Author.Needs.{needs}
 use Rattle.cobalnis.proofs.tested.Statement.{statement}
 use Rattle.cobalnis.proofs.tested.Tie as tie
 
-enum-told : tie.Need-enum-told
-enum-told c = search needs
-
-enum-known-check : tie.Need-enum-known-check
-enum-known-check c = search needs
-
 returns : tie.Need-returns
 returns c = simp (c .enum-told .given .1)
 
@@ -16,4 +10,4 @@ returns-2 : tie.Need-returns-2
 returns-2 c = simp (c .before .check .given .1)
 
 pub tested-spec : {M : Type 1} → statement M
-tested-spec = tie.close (tie.spec enum-told enum-known-check returns returns-2)
+tested-spec = tie.close (tie.spec (λ c. search needs) (λ c. search needs) returns returns-2)

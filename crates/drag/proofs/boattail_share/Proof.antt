@@ -1,5 +1,5 @@
 -- `boattail_share` meets its contract: each arm is what the definition picks where the tests are as that arm found them.
--- Assumes nothing.
+--
 use Rattle.drag.specs.Pressure.{boattailShare}
 use Rattle.drag.proofs.boattail_share.Statement.{statement}
 use Rattle.drag.proofs.boattail_share.Tie as tie

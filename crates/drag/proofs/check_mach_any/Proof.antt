@@ -1,5 +1,4 @@
 -- `check_mach_any` meets its contract: both ways to the test's outcome end in what the definition's test is there.
--- Assumes nothing.
 use mathlib.Core.Path.{_∙_}
 use mathlib.Core.Logic.{⊎-elim}
 use borrow.Author.Needs.{needs}

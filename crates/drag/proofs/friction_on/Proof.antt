@@ -1,70 +1,37 @@
--- `drag::friction_on` meets its contract.
-use Rattle.drag.specs.Walls.{frictionOn}
+-- `friction_on` meets its contract: a refused flow or roughness is handed on, and otherwise the value is the definition's.
+use Rattle.drag.specs.Friction.{frictionOn}
 use borrow.Author.Needs.{needs}
 use Rattle.drag.proofs.friction_on.Statement.{statement}
 use Rattle.drag.proofs.friction_on.Tie as tie
 
-check-mach-any-requires : tie.Need-check-mach-any-requires
-check-mach-any-requires c κs = search needs
-
-enum-known-refusal : tie.Need-enum-known-refusal
-enum-known-refusal c = search needs
-
 returns : tie.Need-returns
 unfolding frictionOn
-returns c = simp (← c .before .before .before .check-mach-any .ensures, c .before .refusal .given .1)
-
-enum-told : tie.Need-enum-told
-enum-told c = search needs
-
-check-dimension-requires : tie.Need-check-dimension-requires
-check-dimension-requires c κs = search needs
-
-enum-known-refusal-2 : tie.Need-enum-known-refusal-2
-enum-known-refusal-2 c = search needs
+returns c = simp (← c .before .before .before .check-flow .ensures, c .before .refusal .given .1)
 
 returns-2 : tie.Need-returns-2
 unfolding frictionOn
-returns-2 c = simp (← c .before .before .before .before .before .before .check-mach-any .ensures, c .before .before .before .before .enum-told .given .1, ← c .before .before .before .check-dimension .ensures, c .before .refusal2 .given .1)
-
-enum-told-2 : tie.Need-enum-told-2
-enum-told-2 c = search needs
-
-limited-on-requires : tie.Need-limited-on-requires
-limited-on-requires c κs = search needs
-
-enum-known-refusal-3 : tie.Need-enum-known-refusal-3
-enum-known-refusal-3 c = search needs
-
-enum-known-limited : tie.Need-enum-known-limited
-enum-known-limited c = search needs
-
-friction-where-requires : tie.Need-friction-where-requires
-friction-where-requires c κs = search needs
+returns-2 c = simp (← c .before .before .before .before .before .check-flow .ensures, c .before .before .before .enum-told .given .1, c .before .before .if1 .taken, c .enum-told2 .given .1)
 
 returns-3 : tie.Need-returns-3
 unfolding frictionOn
-returns-3 c = simp (← c .before .before .before .before .before .before .before .before .before .check-mach-any .ensures, c .before .before .before .before .before .before .before .enum-told .given .1, ← c .before .before .before .before .before .before .check-dimension .ensures, c .before .before .before .before .enum-told2 .given .1, ← c .before .before .before .limited-on .ensures, c .before .refusal3 .given .1)
+returns-3 c = simp (← c .before .before .before .before .before .before .before .check-flow .ensures, c .before .before .before .before .before .enum-told .given .1, c .before .before .before .before .if1 .taken, c .before .before .answer .given .1, c .compressible .ensures)
 
 returns-4 : tie.Need-returns-4
 unfolding frictionOn
-returns-4 c = simp (← c .before .before .before .before .before .before .before .before .before .before .check-mach-any .ensures, c .before .before .before .before .before .before .before .before .enum-told .given .1, ← c .before .before .before .before .before .before .before .check-dimension .ensures, c .before .before .before .before .before .enum-told2 .given .1, ← c .before .before .before .before .limited-on .ensures, c .before .before .limited .given .1, c .friction-where .ensures)
+returns-4 c = simp (← c .before .before .before .before .check-flow .ensures, c .before .before .enum-told .given .1, c .before .if1 .left, c .compressible2 .ensures)
 
 pub friction-on-spec : {M : Type 1} → statement M
 friction-on-spec =
     tie.close
     (tie.spec
-    check-mach-any-requires
-    enum-known-refusal
+    (λ c κs. search needs)
+    (λ c. search needs)
     returns
-    enum-told
-    check-dimension-requires
-    enum-known-refusal-2
+    (λ c. search needs)
+    (λ c. search needs)
+    (λ c. search needs)
     returns-2
-    enum-told-2
-    limited-on-requires
-    enum-known-refusal-3
-    enum-known-limited
-    friction-where-requires
+    (λ c κs. search needs)
     returns-3
+    (λ c κs. search needs)
     returns-4)

@@ -1,20 +1,12 @@
--- `drag::limited_from` meets its contract.
+-- `limited_from` meets its contract: each arm is what the definition picks by the same case and test.
 use borrow.Author.Needs.{needs}
 use Rattle.drag.proofs.limited_from.Statement.{statement}
 use Rattle.drag.proofs.limited_from.Tie as tie
 
-enum-known-critical : tie.Need-enum-known-critical
-enum-known-critical c = search needs
-
-enum-known-critical-2 : tie.Need-enum-known-critical-2
-enum-known-critical-2 c = search needs
-
-returns : tie.Need-returns
-returns c = simp (c .before .critical .given .1)
-
-returns-2 : tie.Need-returns-2
-returns-2 c = simp (c .before .critical2 .given .1)
-
 pub limited-from-spec : {M : Type 1} → statement M
 limited-from-spec =
-    tie.close (tie.spec enum-known-critical enum-known-critical-2 returns returns-2)
+    tie.close
+    (tie.spec
+    (λ c. search needs) (λ c. search needs) (λ c κs. search needs) (λ c. search needs)
+    (λ c. simp (c .before .before .before .critical .given .1, c .before .if1 .taken, c .limited-friction .ensures))
+    (λ c. simp (c .before .before .critical .given .1, c .if1 .left)))

@@ -1,5 +1,5 @@
 -- `stagnation_ratio` meets its contract: each arm computes what the definition picks where the test is as that arm found it.
--- Assumes nothing.
+--
 use Rattle.drag.specs.Pressure.{stagnationRatio}
 use Rattle.drag.proofs.stagnation_ratio.Statement.{statement}
 use Rattle.drag.proofs.stagnation_ratio.Tie as tie

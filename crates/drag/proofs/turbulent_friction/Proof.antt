@@ -1,5 +1,5 @@
 -- `turbulent_friction` meets its contract: each arm computes what the definition picks where the test is as that arm found it.
--- Assumes nothing.
+--
 use borrow.Author.Needs.{needs}
 use Rattle.drag.specs.Friction.{turbulentFriction}
 use Rattle.drag.proofs.turbulent_friction.Statement.{statement}

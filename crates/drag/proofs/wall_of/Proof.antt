@@ -1,16 +1,11 @@
--- `drag::wall_of` meets its contract.
+-- `wall_of` meets its contract: each field by its function.
 use borrow.Author.Needs.{needs}
 use Rattle.drag.proofs.wall_of.Statement.{statement}
 use Rattle.drag.proofs.wall_of.Tie as tie
 
-critical-reynolds-requires : tie.Need-critical-reynolds-requires
-critical-reynolds-requires c κs = search needs
-
-limited-friction-requires : tie.Need-limited-friction-requires
-limited-friction-requires c κs = search needs
-
-returns : tie.Need-returns
-returns c = simp (c .limited-friction .ensures, c .before .critical-reynolds .ensures)
-
 pub wall-of-spec : {M : Type 1} → statement M
-wall-of-spec = tie.close (tie.spec critical-reynolds-requires limited-friction-requires returns)
+wall-of-spec =
+    tie.close
+    (tie.spec
+    (λ c κs. search needs) (λ c κs. search needs)
+    (λ c. simp (c .limited-friction .ensures, c .before .critical-reynolds .ensures)))

@@ -3,12 +3,6 @@ use borrow.Author.Needs.{needs}
 use Rattle.drag_sheet.proofs.answer_for.Statement.{statement}
 use Rattle.drag_sheet.proofs.answer_for.Tie as tie
 
-enum-told : tie.Need-enum-told
-enum-told c = search needs
-
-enum-known-outcome : tie.Need-enum-known-outcome
-enum-known-outcome c = search needs
-
 returns : tie.Need-returns
 returns c = rw (c .enum-told .given .1)
 
@@ -16,4 +10,4 @@ returns-2 : tie.Need-returns-2
 returns-2 c = rw (c .before .outcome .given .1)
 
 pub answer-for-spec : {M : Type 1} → statement M
-answer-for-spec = tie.close (tie.spec enum-told enum-known-outcome returns returns-2)
+answer-for-spec = tie.close (tie.spec (λ c. search needs) (λ c. search needs) returns returns-2)

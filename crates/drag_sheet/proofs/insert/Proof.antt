@@ -1,89 +1,50 @@
--- `drag_sheet::insert` meets its contract.
-use mathlib.Core.Path.{_≡_, refl, sym, ap, _∙_, subst}
-use mathlib.Core.List.{List}
-use Prim.Native.Nat.{_+_, _≤_, _<_}
+-- `insert` meets its contract: the sheet that it leaves, all rows of it written.
+use mathlib.Core.Path.{_≡_, refl, sym, ap, _∙_}
 use native.Mathlib.Omega.{arith}
-use lib.ListN.{length, take, length-map}
-use Rattle.aero_error.specs.declared.Check.the-variants.{Passed}
-use Rattle.drag_sheet.specs.declared.Part.{Part}
-use Rattle.drag_sheet.specs.Build.{build, partsOf}
-use Rattle.drag_sheet.specs.Calls.{insert, insertAt, callTest, answered, cellsAfter, Wrote}
-use Rattle.drag_sheet.proofs.Answers.{Room, insert-facts, called-refused, called-all}
-use Rattle.drag_sheet.proofs.Slots.{parts-inserted}
+use lib.ListN.{length, length-map}
+use Rattle.sheet_data.specs.Layout.{most-parts}
+use Rattle.drag_sheet.specs.Calls.{insert, tries}
+use Rattle.drag_sheet.proofs.Answers.{Facts, call-facts, bounds, called-refused, called-whole}
+use Rattle.drag_sheet.proofs.Changed.{inserted-sheet}
 use borrow.Author.Needs.{needs}
 use Rattle.drag_sheet.proofs.insert.Statement.{statement}
 use Rattle.drag_sheet.proofs.insert.Tie as tie
 
--- the tests have passed here
-passed : (c : tie.After-enum-told) → let a = c .before .before .before .before .args in callTest (insert (a .place) (a .part)) (a .sheet) (length (a .cells .now)) ≡ Passed
-passed c = sym (c .before .before .check-insert .ensures) ∙ c .enum-told .given .1
+-- what the tests have shown
+facts : (c : tie.After-enum-told) → let s = c .before .before .before .before in Facts (insert (s .args .place) (s .args .part)) (s .args .sheet) (length (s .args .cells .now))
+facts c = let s = c .before .before .before .before in call-facts (insert (s .args .place) (s .args .part)) (s .args .sheet) (length (s .args .cells .now)) (sym (c .before .before .check-insert .ensures) ∙ c .enum-told .given .1)
 
--- so the parts and the cells have room
-facts : (c : tie.After-enum-told) → let a = c .before .before .before .before .args in Room (a .sheet) (length (a .cells .now)) × (a .place ≤ a .sheet .design .count) × (a .sheet .design .count < 16)
-facts c = let a = c .before .before .before .before .args in insert-facts (a .sheet) (length (a .cells .now)) (a .place) (a .part) (passed c)
-
--- the design holds 16 slots
-long : (s : tie.Start) → length (s .args .sheet .design .parts) ≡ 16
+-- the array of the design has its length
+long : (s : tie.Start) → length (s .args .sheet .design .parts) ≡ most-parts
 long s = simp length-map at (s .good .0 .1 .1 .1 .0 .1 .1 .1 .0 .1 .0 .1)
 
-check-insert-requires : tie.Need-check-insert-requires
-check-insert-requires c κs = search needs
-
-enum-known-check : tie.Need-enum-known-check
-enum-known-check c = search needs
-
 returns : tie.Need-returns
-returns c =
-    let a = c .before .before .before .before .before .args in
-    called-refused (insert (a .place) (a .part)) (a .sheet) (a .cells .now) _ (sym (c .before .before .before .check-insert .ensures) ∙ c .before .check .given .1)
-
-enum-told : tie.Need-enum-told
-enum-told c = search needs
-
-add-t13 : tie.Need-add-t13
-add-t13 c = omega (arith, facts (c .before .before .before))
+returns c = let s = c .before .before .before .before in called-refused (insert (s .args .place) (s .args .part)) (s .args .sheet) (s .args .cells .now) _ _ (c .before .before .check-insert .ensures) (c .enum-told2 .given .1)
 
 inserted-requires : tie.Need-inserted-requires
-inserted-requires c κs = omega (arith, facts (c .before .before .before))
+inserted-requires c κs = let s = c .before .before .before .before .before .before .before in let f = facts (c .before .before .before) in let b = bounds (insert (s .args .place) (s .args .part)) (s .args .sheet .settings) (s .args .sheet .design .count) (f .arguments) in (b .0, b .1)
 
-write-all-requires : tie.Need-write-all-requires
-write-all-requires c κs =
+rewrite-requires : tie.Need-rewrite-requires
+rewrite-requires c κs =
+    let s = c .before .before .before .before .before .before .before .before .before in
     let f = facts (c .before .before .before .before .before) in
-    (f .0 .columns, omega (arith, f), f .0 .cells)
-
-answer-for-requires : tie.Need-answer-for-requires
-answer-for-requires c κs = search needs
-
-same-length : tie.Need-same-length
-same-length c = search needs
+    let b = bounds (insert (s .args .place) (s .args .part)) (s .args .sheet .settings) (s .args .sheet .design .count) (f .arguments) in
+    record { columns = f .fits .columns; parts = omega (arith, b .1); room = f .fits .room }
 
 returns-2 : tie.Need-returns-2
-unfolding cellsAfter
+unfolding tries
 returns-2 c =
-    let s = c .before .before .before .before .before .before .before .before .before .before .before .before .before in
-    let a = s .args in
-    let told = c .before .before .before .before .before .before .before .before .before in
-    let f = facts told in
-    let d = a .sheet .design in
-    let new = c .before .before .before .before .before .inserted in
-    let w = c .before .before .before .write-all in
-    let view = parts-inserted (d .count) (a .place) (a .part) (d .parts) (f .1) (f .2) (long s) in
-    let parts : take (d .count + 1) (new .result) ≡ insertAt (a .place) (a .part) (partsOf d) = ap (take (d .count + 1)) (new .ensures) ∙ view in
-    let wrote = subst (λ (ps : List Part). Wrote (build (a .sheet .settings) ps) (w .result) (a .cells .now) (w .last .1 .1 .0)) parts (w .ensures) in
-    called-all (insert (a .place) (a .part)) (a .sheet) (a .cells .now) (w .last .1 .1 .0) (build (a .sheet .settings) (insertAt (a .place) (a .part) (partsOf d))) (w .result) (c .answer-for .result) (passed told) refl refl wrote
-    (c .answer-for .ensures ∙ ap (λ (ps : List Part). answered (w .result) (a .sheet) (record { settings = a .sheet .settings; design = record { count = d .count + 1; parts = ps } })) (new .ensures))
+    let s = c .before .before .before .before .before .before .before .before .before .before .before .before in
+    let e = c .before .before .before .before .before .before .before .before in
+    let f = facts e in
+    let b = bounds (insert (s .args .place) (s .args .part)) (s .args .sheet .settings) (s .args .sheet .design .count) (f .arguments) in
+    called-whole (insert (s .args .place) (s .args .part)) (s .args .sheet) _ (s .args .cells .now) _ _ (sym (e .before .before .check-insert .ensures) ∙ e .enum-told .given .1)
+    (inserted-sheet (s .args .sheet) (long s) (f .fits .parts) (s .args .place) (s .args .part) _ (b .0) (c .before .before .before .before .inserted .ensures)) refl refl (c .before .before .rewrite .ensures)
 
 pub insert-spec : {M : Type 1} → statement M
 insert-spec =
     tie.close
     (tie.spec
-    check-insert-requires
-    enum-known-check
-    returns
-    enum-told
-    add-t13
-    inserted-requires
-    write-all-requires
-    answer-for-requires
-    same-length
-    returns-2)
+    (λ c κs. search needs) (λ c. search needs) (λ c. search needs) returns
+    (λ c. let s = c .before .before .before .before .before .before .before in let f = facts (c .before .before .before) in let b = bounds (insert (s .args .place) (s .args .part)) (s .args .sheet .settings) (s .args .sheet .design .count) (f .arguments) in let h = b .1 in search needs)
+    inserted-requires rewrite-requires (λ c. search needs) returns-2)

@@ -2,20 +2,14 @@
 use mathlib.Core.Path.{sym, _∙_}
 use Rattle.elementary.specs.Steps.{EXP}
 use Rattle.elementary.proofs.Floats.{differs}
-use Rattle.elementary.proofs.Sizes.{between}
+use Rattle.elementary.proofs.Sizes.{between-bounds}
 use borrow.Author.Needs.{needs}
 use Rattle.elementary.proofs.exp.Statement.{statement}
 use Rattle.elementary.proofs.exp.Tie as tie
 
-nan-requires : tie.Need-nan-requires
-nan-requires c κs = search needs
-
 returns : tie.Need-returns
 unfolding EXP
 returns c = rw (← differs (c .before .before .args .y), c .before .if1 .taken) (c .nan .ensures)
-
-infinity-requires : tie.Need-infinity-requires
-infinity-requires c κs = search needs
 
 returns-2 : tie.Need-returns-2
 unfolding EXP
@@ -26,20 +20,11 @@ unfolding EXP
 returns-3 c = rw (← differs (c .before .before .before .args .y), c .before .before .if1 .left, c .before .if2 .left, c .if3 .taken)
 
 exp-steps-requires : tie.Need-exp-steps-requires
-exp-steps-requires c κs = between (c .before .before .before .args .y) (sym (differs (c .before .before .before .args .y)) ∙ c .before .before .if1 .left) (c .before .if2 .left) (c .if3 .left)
+exp-steps-requires c κs = between-bounds (c .before .before .before .args .y) (sym (differs (c .before .before .before .args .y)) ∙ c .before .before .if1 .left) (c .before .if2 .left) (c .if3 .left)
 
 returns-4 : tie.Need-returns-4
 unfolding EXP
 returns-4 c = rw (← differs (c .before .before .before .before .args .y), c .before .before .before .if1 .left, c .before .before .if2 .left, c .before .if3 .left) (c .exp-steps .ensures)
 
 pub exp-spec : {M : Type 1} → statement M
-exp-spec =
-    tie.close
-    (tie.spec
-    nan-requires
-    returns
-    infinity-requires
-    returns-2
-    returns-3
-    exp-steps-requires
-    returns-4)
+exp-spec = tie.close (tie.spec (λ c κs. search needs) returns (λ c κs. search needs) returns-2 returns-3 exp-steps-requires returns-4)

@@ -20,14 +20,8 @@ short c = rw (c .floor .ensures) (floor-within _ 1493 (exponent-within (c .befor
 signed-number-requires : tie.Need-signed-number-requires
 signed-number-requires c κs = omega (arith, short c)
 
-exp-series-requires : tie.Need-exp-series-requires
-exp-series-requires c κs = search needs
-
 signed-power-requires : tie.Need-signed-power-requires
 signed-power-requires c κs = omega (arith, short (c .before .before))
-
-sub-signed-power : tie.Need-sub-signed-power
-sub-signed-power c = search needs
 
 signed-power-requires-2 : tie.Need-signed-power-requires-2
 signed-power-requires-2 c κs = omega (arith, short (c .before .before .before))
@@ -40,10 +34,4 @@ pub exp-steps-spec : {M : Type 1} → statement M
 exp-steps-spec =
     tie.close
     (tie.spec
-    floor-requires
-    signed-number-requires
-    exp-series-requires
-    signed-power-requires
-    sub-signed-power
-    signed-power-requires-2
-    returns)
+    floor-requires signed-number-requires (λ c κs. search needs) signed-power-requires (λ c. search needs) signed-power-requires-2 returns)

@@ -6,12 +6,9 @@ use borrow.Author.Needs.{needs}
 use Rattle.elementary.proofs.ln_sum.Statement.{statement}
 use Rattle.elementary.proofs.ln_sum.Tie as tie
 
-number-requires : tie.Need-number-requires
-number-requires c κs = search needs
-
 returns : tie.Need-returns
 unfolding lnSum ofInt round ofBits div
 returns c = rw (c .number .ensures)
 
 pub ln-sum-spec : {M : Type 1} → statement M
-ln-sum-spec = tie.close (tie.spec number-requires returns)
+ln-sum-spec = tie.close (tie.spec (λ c κs. search needs) returns)

@@ -10,8 +10,5 @@ int-to-float-result : tie.Need-int-to-float-result
 unfolding inFloat
 int-to-float-result c = le→leb (c .before .args .n) (2 ^ 53) (c .before .pre)
 
-returns : tie.Need-returns
-returns c = search needs
-
 pub number-spec : {M : Type 1} → statement M
-number-spec = tie.close (tie.spec int-to-float-result returns)
+number-spec = tie.close (tie.spec int-to-float-result (λ c. search needs))

@@ -6,18 +6,6 @@ use borrow.Author.Needs.{needs}
 use Rattle.elementary.proofs.signed_power.Statement.{statement}
 use Rattle.elementary.proofs.signed_power.Tie as tie
 
-sub-power : tie.Need-sub-power
-sub-power c = search needs
-
-power-requires : tie.Need-power-requires
-power-requires c κs = search needs
-
-add-power : tie.Need-add-power
-add-power c = search needs
-
-power-requires-2 : tie.Need-power-requires-2
-power-requires-2 c κs = search needs
-
 returns : tie.Need-returns
 returns c = rw (c .before .if1 .taken) (c .power .ensures ∙ ap two^ (minus-down _ (c .before .before .pre)))
 
@@ -25,5 +13,4 @@ returns-2 : tie.Need-returns-2
 returns-2 c = rw (c .before .if1 .left) (c .power2 .ensures ∙ ap two^ (minus-up _))
 
 pub signed-power-spec : {M : Type 1} → statement M
-signed-power-spec =
-    tie.close (tie.spec sub-power power-requires add-power power-requires-2 returns returns-2)
+signed-power-spec = tie.close (tie.spec (λ c. search needs) (λ c κs. search needs) (λ c. search needs) (λ c κs. search needs) returns returns-2)

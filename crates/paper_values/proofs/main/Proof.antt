@@ -1,5 +1,4 @@
 -- `main` meets its contract, which says nothing: each bit pattern is no NaN's, as `from_bits` asks.
--- Assumes nothing.
 use borrow.Author.Needs.{needs}
 use lib.Ieee.{nanBits}
 use Rattle.paper_values.proofs.main.Statement.{statement}

@@ -1,7 +1,7 @@
--- `replay::digit` meets its contract. Assumes nothing.
+-- `replay::digit` meets its contract.
 use borrow.Author.Needs.{needs}
 use borrow.Author.Tests.{lt-ltb, le-ltb, le-leb, lt-leb}
-use Rattle.replay.specs.Fields.{digitOf}
+use Rattle.replay.specs.Words.{digitOf}
 use Rattle.replay.proofs.digit.Statement.{statement}
 use Rattle.replay.proofs.digit.Tie as tie
 

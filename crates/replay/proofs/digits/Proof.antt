@@ -1,8 +1,8 @@
 -- `replay::digits` meets its contract. The loop's invariant: the digits passed spell `number`, which is below 16 to the power of
--- their count, and reading on from there is reading the whole text from 0. The measure is what is left of the text. Assumes nothing.
+-- their count, and reading on from there is reading the whole text from 0. The measure is what is left of the text.
 use Prim.Native.Nat.{ℕ, suc, _+_, _-_, _*_, _^_, _≤_, _<_}
 use mathlib.Core.Path.{_≡_, refl}
-use native.Mathlib.Nat.{mul-le-mul-left, pow-le-pow-right, lt-of-lt-of-le}
+use native.Mathlib.Nat.{pow-le-pow-right, lt-of-lt-of-le}
 use native.Mathlib.Numerals.{add-one}
 use native.Mathlib.Omega.{arith}
 use borrow.Author.Needs.{needs}
@@ -14,36 +14,34 @@ use lib.Dec.{leb}
 use mathlib.Core.Bool.{cond}
 use mathlib.Core.List.{List}
 use Rattle.replay.specs.declared.Field.the-variants.{Unread}
-use Rattle.replay.specs.declared.Unreadable.the-variants.{NoDigit}
-use Rattle.replay.specs.Fields.{digitOf, digitsOf}
+use Rattle.replay.specs.Words.{digitOf, digitsOf}
 use Rattle.replay.proofs.digits.Statement.{statement}
 use Rattle.replay.proofs.digits.Tie as tie
 
--- one digit more, in a base up to 16
-grown : (i n base d : ℕ) → n < 16 ^ i → base ≤ 16 → d < base → n * base + d < 16 ^ suc i
-grown i n base d below small digit = omega (arith, mul-le-mul-left n small)
+-- one digit more
+grown : (i n d : ℕ) → n < 16 ^ i → d < 16 → n * 16 + d < 16 ^ suc i
+grown i n d below digit = omega arith
 
 -- 16 digits are 64 bits
-room : (i n base d : ℕ) → i < 16 → n < 16 ^ i → base ≤ 16 → d < base → n * base + d < 2 ^ 64
-room i n base d h below small digit = lt-of-lt-of-le (grown i n base d below small digit) (pow-le-pow-right (omega arith) h)
+room : (i n d : ℕ) → i < 16 → n < 16 ^ i → d < 16 → n * 16 + d < 2 ^ 64
+room i n d h below digit = lt-of-lt-of-le (grown i n d below digit) (pow-le-pow-right (omega arith) h)
 
 -- reading on is one digit, and then reading on
-on : (base i n : ℕ) (text : List ℕ) → i < length text
-    → digitsOf base (drop i text) n
-    ≡ cond (leb base (digitOf (getD text i 0))) (Unread NoDigit) (digitsOf base (drop (i + 1) text) (n * base + digitOf (getD text i 0)))
-on base i n text h = rw (add-one, drop-cons text i 0)
+on : (i n : ℕ) (text : List ℕ) → i < length text
+    → digitsOf (drop i text) n ≡ cond (leb 16 (digitOf (getD text i 0))) Unread (digitsOf (drop (i + 1) text) (n * 16 + digitOf (getD text i 0)))
+on i n text h = rw (add-one, drop-cons text i 0)
 
 abbrev Inv-loop : tie.InvT-loop
-Inv-loop text base number₀ i₀ number i = (i ≤ length text) × ((number < 16 ^ i) × (digitsOf base (drop i text) number ≡ digitsOf base text 0))
+Inv-loop text number₀ i₀ number i = (i ≤ length text) × ((number < 16 ^ i) × (digitsOf (drop i text) number ≡ digitsOf text 0))
 
 abbrev μ-loop : tie.MeasureT-loop
-μ-loop text base number₀ i₀ number i = length text - i
+μ-loop text number₀ i₀ number i = length text - i
 
 returns : tie.Need-returns Inv-loop μ-loop
 returns c =
     let l = c .before .before .before .before .loop in
     let a = c .before .before .before .before .before .before .args in
-    rw (on (a .base) (l .i) (l .number) (now (a .text)) (omega arith), ← c .before .digit .ensures, le-leb _ _ (c .if1 .taken)) at (l .inv .1 .1)
+    rw (on (l .i) (l .number) (now (a .text)) (omega arith), ← c .before .digit .ensures, le-leb _ _ (c .if1 .taken)) at (l .inv .1 .1)
 
 loop-again : tie.Need-loop-again Inv-loop μ-loop
 loop-again c =
@@ -51,8 +49,8 @@ loop-again c =
     let a = c .before .before .before .before .before .before .args in (
       omega arith,
       (
-        rw add-one (grown _ _ _ _ (l .inv .1 .0) (c .before .before .before .before .before .before .pre .0) (c .if1 .left)),
-        rw (on (a .base) (l .i) (l .number) (now (a .text)) (omega arith), ← c .before .digit .ensures, lt-leb _ _ (c .if1 .left)) at (l .inv .1 .1),
+        rw add-one (grown _ _ _ (l .inv .1 .0) (c .if1 .left)),
+        rw (on (l .i) (l .number) (now (a .text)) (omega arith), ← c .before .digit .ensures, lt-leb _ _ (c .if1 .left)) at (l .inv .1 .1),
       ),
     )
 
@@ -65,15 +63,7 @@ pub digits-spec : {M : Type 1} → statement M
 digits-spec =
     tie.close
     (tie.spec
-    Inv-loop
-    μ-loop
-    (λ c. (omega arith, (omega arith, refl)))
-    (λ c. omega arith)
-    (λ c κs. search needs)
-    returns
-    (λ c. let l = c .before .before .before .before .loop in omega (arith, room (l .i) (l .number) _ _ (omega arith) (l .inv .1 .0) (c .before .before .before .before .before .before .pre .0) (c .if1 .left)))
-    (λ c. let l = c .before .before .before .before .loop in omega (arith, room (l .i) (l .number) _ _ (omega arith) (l .inv .1 .0) (c .before .before .before .before .before .before .pre .0) (c .if1 .left)))
-    (λ c. omega arith)
-    (λ c. omega arith)
-    loop-again
-    returns-2)
+    Inv-loop μ-loop (λ c. (omega arith, (omega arith, refl))) (λ c. omega arith) (λ c κs. search needs) returns
+    (λ c. let l = c .before .before .before .before .loop in omega (arith, room (l .i) (l .number) _ (omega arith) (l .inv .1 .0) (c .if1 .left)))
+    (λ c. let l = c .before .before .before .before .loop in omega (arith, room (l .i) (l .number) _ (omega arith) (l .inv .1 .0) (c .if1 .left)))
+    (λ c. omega arith) (λ c. omega arith) loop-again returns-2)

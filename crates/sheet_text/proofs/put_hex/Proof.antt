@@ -4,14 +4,14 @@ use Prim.Native.Nat.{ℕ, _+_, _-_, _≤_, _/_}
 use native.Mathlib.Omega.{arith}
 use lib.ListN.{length, set, length-set}
 use lib.Seq.{sets}
-use Rattle.sheet_text.specs.Bytes.{hexDigits}
+use Rattle.sheet_text.specs.Bytes.{digits, hexDigits}
 use Rattle.sheet_text.proofs.Puts.{hex-long, hex-step}
 use Rattle.sheet_text.proofs.put_hex.Statement.{statement}
 use Rattle.sheet_text.proofs.put_hex.Tie as tie
 
 abbrev Inv-loop : tie.InvT-loop
 Inv-loop x out₀ at rest₀ n₀ out rest n =
-    (n ≤ 16) × (length out ≡ length out₀) × (sets out₀ at (hexDigits 16 x) ≡ sets out at (hexDigits n rest))
+    (n ≤ digits) × (length out ≡ length out₀) × (sets out₀ at (hexDigits digits x) ≡ sets out at (hexDigits n rest))
 
 abbrev μ-loop : tie.MeasureT-loop
 μ-loop x out₀ at rest₀ n₀ out rest n = n
@@ -20,36 +20,12 @@ loop-holds : tie.Need-loop-holds Inv-loop μ-loop
 loop-holds c =
     (omega arith, refl, refl)
 
-sub-n : tie.Need-sub-n Inv-loop μ-loop
-sub-n c =
-    omega arith
-
-hex-digit-requires : tie.Need-hex-digit-requires Inv-loop μ-loop
-hex-digit-requires c κs =
-    omega arith
-
-add-out : tie.Need-add-out Inv-loop μ-loop
-add-out c =
-    omega arith
-
-slice-write-out : tie.Need-slice-write-out Inv-loop μ-loop
-slice-write-out c =
-    omega arith
-
-loop-less : tie.Need-loop-less Inv-loop μ-loop
-loop-less c =
-    omega arith
-
 loop-again : tie.Need-loop-again Inv-loop μ-loop
 loop-again c =
     let l = c .before .before .loop in
     let a = c .before .before .before .before .args in
     let d = c .hex-digit .result in
     (omega arith, length-set (l .out) (a .at + (l .n - 1)) d ∙ l .inv .1, l .inv .2 ∙ hex-step (l .n) (l .rest) (a .at) (l .out) (omega arith) ∙ ap (λ (v : ℕ). sets (set (l .out) (a .at + (l .n - 1)) v) (a .at) (hexDigits (l .n - 1) (l .rest / 16))) (sym (c .hex-digit .ensures)))
-
-add-result : tie.Need-add-result Inv-loop μ-loop
-add-result c =
-    omega arith
 
 same-length : tie.Need-same-length Inv-loop μ-loop
 same-length c =
@@ -61,21 +37,11 @@ returns c =
     let l = c .before .loop in
     let a = c .before .before .before .args in
     let e : l .n ≡ 0 = omega arith in
-    record { place = let h = hex-long 16 (a .x) in omega (arith, h); bytes = sym (l .inv .2 ∙ ap (λ (k : ℕ). sets (l .out) (a .at) (hexDigits k (l .rest))) e) }
+    record { place = let h = hex-long digits (a .x) in omega (arith, h); bytes = sym (l .inv .2 ∙ ap (λ (k : ℕ). sets (l .out) (a .at) (hexDigits k (l .rest))) e) }
 
 pub put-hex-spec : {M : Type 1} → statement M
 put-hex-spec =
     tie.close
     (tie.spec
-    Inv-loop
-    μ-loop
-    loop-holds
-    sub-n
-    hex-digit-requires
-    add-out
-    slice-write-out
-    loop-less
-    loop-again
-    add-result
-    same-length
-    returns)
+    Inv-loop μ-loop loop-holds (λ c. omega arith) (λ c κs. omega arith) (λ c. omega arith) (λ c. omega arith) (λ c. omega arith) loop-again
+    (λ c. omega arith) same-length returns)

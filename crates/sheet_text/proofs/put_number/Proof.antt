@@ -2,19 +2,11 @@
 use mathlib.Core.Path.{_∙_}
 use native.Mathlib.Omega.{arith}
 use lib.ListN.{length-set}
+use Rattle.sheet_text.specs.Bytes.{space}
 use Rattle.sheet_text.proofs.Puts.{number-put}
 use borrow.Author.Needs.{needs}
 use Rattle.sheet_text.proofs.put_number.Statement.{statement}
 use Rattle.sheet_text.proofs.put_number.Tie as tie
-
-slice-write-out : tie.Need-slice-write-out
-slice-write-out c = search needs
-
-to-bits-requires : tie.Need-to-bits-requires
-to-bits-requires c κs = search needs
-
-add-put-hex : tie.Need-add-put-hex
-add-put-hex c = search needs
 
 put-hex-requires : tie.Need-put-hex-requires
 put-hex-requires c κs =
@@ -23,7 +15,7 @@ put-hex-requires c κs =
 same-length : tie.Need-same-length
 same-length c =
     let a = c .before .before .before .before .before .before .args in
-    c .before .before .put-hex .kept .1 .0 ∙ length-set (a .out .now) (a .at) 32
+    c .before .before .put-hex .kept .1 .0 ∙ length-set (a .out .now) (a .at) space
 
 returns : tie.Need-returns
 returns c =
@@ -32,6 +24,4 @@ returns c =
     number-put (a .at) _ (b .put-hex .result) (a .x) (a .out .now) (b .put-hex .last .1 .0) (b .before .before .to-bits .ensures) (b .put-hex .ensures)
 
 pub put-number-spec : {M : Type 1} → statement M
-put-number-spec =
-    tie.close
-    (tie.spec slice-write-out to-bits-requires add-put-hex put-hex-requires same-length returns)
+put-number-spec = tie.close (tie.spec (λ c. search needs) (λ c κs. search needs) (λ c. search needs) put-hex-requires same-length returns)

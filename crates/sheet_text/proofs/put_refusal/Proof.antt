@@ -7,25 +7,14 @@ use borrow.Author.Needs.{needs}
 use Rattle.sheet_text.proofs.put_refusal.Statement.{statement}
 use Rattle.sheet_text.proofs.put_refusal.Tie as tie
 
-slice-aggregate-put-name : tie.Need-slice-aggregate-put-name
-slice-aggregate-put-name c = search needs
-
-put-name-requires : tie.Need-put-name-requires
-put-name-requires c κs = search needs
-
-put-decimal-requires : tie.Need-put-decimal-requires
-put-decimal-requires c κs = search needs
-
-slice-aggregate-put-name-2 : tie.Need-slice-aggregate-put-name-2
-slice-aggregate-put-name-2 c = search needs
-
 put-name-requires-2 : tie.Need-put-name-requires-2
 put-name-requires-2 c κs =
     let d = c .before .before .before .before in
     let m = d .before .before .before .before in
     let a = m .before .before .before .before .args in
     let h = decimal-long (a .number) in
-    omega (arith, h, d .put-decimal .ensures .place, d .put-decimal .kept .1 .0, m .put-name .ensures .place, m .put-name .kept .1 .0)
+    let i = decimal-long (a .card) in
+    omega (arith, h, i, d .put-decimal .ensures .place, d .put-decimal .kept .1 .0, m .put-name .ensures .place, m .put-name .kept .1 .0)
 
 put-decimal-requires-2 : tie.Need-put-decimal-requires-2
 put-decimal-requires-2 c κs =
@@ -34,7 +23,8 @@ put-decimal-requires-2 c κs =
     let m = d .before .before .before .before in
     let a = m .before .before .before .before .args in
     let h = decimal-long (a .number) in
-    omega (arith, h, n .put-name2 .ensures .place, n .put-name2 .kept .1 .0, d .put-decimal .ensures .place, d .put-decimal .kept .1 .0, m .put-name .ensures .place, m .put-name .kept .1 .0, m .before .before .before .before .pre)
+    let i = decimal-long (a .card) in
+    omega (arith, h, i, n .put-name2 .ensures .place, n .put-name2 .kept .1 .0, d .put-decimal .ensures .place, d .put-decimal .kept .1 .0, m .put-name .ensures .place, m .put-name .kept .1 .0, m .before .before .before .before .pre)
 
 put-line-feed-requires : tie.Need-put-line-feed-requires
 put-line-feed-requires c κs =
@@ -46,9 +36,6 @@ put-line-feed-requires c κs =
     let h = decimal-long (a .number) in
     let i = decimal-long (a .card) in
     omega (arith, h, i, k .put-decimal2 .ensures .place, k .put-decimal2 .kept .1 .0, n .put-name2 .ensures .place, n .put-name2 .kept .1 .0, d .put-decimal .ensures .place, d .put-decimal .kept .1 .0, m .put-name .ensures .place, m .put-name .kept .1 .0, m .before .before .before .before .pre)
-
-same-length : tie.Need-same-length
-same-length c = search needs
 
 returns : tie.Need-returns
 unfolding refusedText
@@ -76,12 +63,5 @@ pub put-refusal-spec : {M : Type 1} → statement M
 put-refusal-spec =
     tie.close
     (tie.spec
-    slice-aggregate-put-name
-    put-name-requires
-    put-decimal-requires
-    slice-aggregate-put-name-2
-    put-name-requires-2
-    put-decimal-requires-2
-    put-line-feed-requires
-    same-length
-    returns)
+    (λ c. search needs) (λ c κs. search needs) (λ c κs. search needs) (λ c. search needs) put-name-requires-2 put-decimal-requires-2
+    put-line-feed-requires (λ c. search needs) returns)

@@ -5,22 +5,10 @@ use borrow.Author.Needs.{needs}
 use Rattle.sheet_text.proofs.put_run.Statement.{statement}
 use Rattle.sheet_text.proofs.put_run.Tie as tie
 
-enum-told : tie.Need-enum-told
-enum-told c = search needs
-
 put-sheet-requires : tie.Need-put-sheet-requires
 put-sheet-requires c κs =
     let s = c .before .before .before .before .before .before in
     (s .pre .1 (c .before .enum-told .given .1), s .pre .2)
-
-enum-known-outcome : tie.Need-enum-known-outcome
-enum-known-outcome c = search needs
-
-number-requires : tie.Need-number-requires
-number-requires c κs = search needs
-
-cast-put-refusal : tie.Need-cast-put-refusal
-cast-put-refusal c = search needs
 
 put-refusal-requires : tie.Need-put-refusal-requires
 put-refusal-requires c κs =
@@ -29,15 +17,9 @@ put-refusal-requires c κs =
     let h = number-small (n .before .before .outcome .given .0 .0) in
     omega (arith, h, n .number .ensures, s .pre .0, s .pre .2)
 
-same-length : tie.Need-same-length
-same-length c = search needs
-
 returns : tie.Need-returns
 returns c =
     rw (c .before .before .before .before .enum-told .given .1) (c .before .before .put-sheet .ensures)
-
-same-length-2 : tie.Need-same-length-2
-same-length-2 c = search needs
 
 returns-2 : tie.Need-returns-2
 returns-2 c =
@@ -48,13 +30,5 @@ pub put-run-spec : {M : Type 1} → statement M
 put-run-spec =
     tie.close
     (tie.spec
-    enum-told
-    put-sheet-requires
-    enum-known-outcome
-    number-requires
-    cast-put-refusal
-    put-refusal-requires
-    same-length
-    returns
-    same-length-2
-    returns-2)
+    (λ c. search needs) put-sheet-requires (λ c. search needs) (λ c κs. search needs) (λ c. search needs) put-refusal-requires
+    (λ c. search needs) returns (λ c. search needs) returns-2)

@@ -3,22 +3,19 @@ use mathlib.Core.Path.{_≡_, sym}
 use native.Mathlib.Omega.{arith}
 use lib.ListN.{length, length-map}
 use lib.Seq.{length-take-le}
-use Rattle.drag_sheet.specs.Build.{machsOf}
-use Rattle.sheet_text.specs.Text.{sheetText, lineText, partLines, bodyText, mach-name}
+use Rattle.sheet_data.specs.Layout.{most-columns}
+use Rattle.sheet_text.specs.Text.{machsOf, sheetText, lineText, partLines, bodyText, mach-name}
 use Rattle.sheet_text.proofs.Puts.{put-then, line-long}
 use borrow.Author.Needs.{needs}
 use Rattle.sheet_text.proofs.put_sheet.Statement.{statement}
 use Rattle.sheet_text.proofs.put_sheet.Tie as tie
 
--- the array of the settings holds 32 Machs, so there are as many as columns
-long : (s : tie.Start) → length (s .args .sheet .settings .machs) ≡ 32
+-- the array of the settings has room for every column, so there are as many Machs as columns
+long : (s : tie.Start) → length (s .args .sheet .settings .machs) ≡ most-columns
 long s = simp length-map at (s .good .0 .1 .1 .0 .1 .1 .1 .1 .1 .1 .0 .1 .0 .1)
 
 machs-long : (s : tie.Start) → length (machsOf (s .args .sheet .settings)) ≡ s .args .sheet .settings .count
 machs-long s = let h = long s in let k = s .pre .0 .columns in length-take-le _ _ (omega (arith, h, k))
-
-slice-aggregate-put-line : tie.Need-slice-aggregate-put-line
-slice-aggregate-put-line c = search needs
 
 array-share-prefix-machs : tie.Need-array-share-prefix-machs
 array-share-prefix-machs c =
@@ -40,7 +37,7 @@ put-parts-requires c κs =
     let s = c .before .before .before .before .before .before .before .before .before .before .before .before in
     let h = machs-long s in
     let e = line-long mach-name (machsOf (s .args .sheet .settings)) in
-    omega (arith, h, e, p .ensures .place, p .kept .1 .1 .0, s .pre .1, s .pre .0 .columns, s .pre .0 .parts, s .pre .0 .cells)
+    omega (arith, h, e, p .ensures .place, p .kept .1 .1 .0, s .pre .1, s .pre .0 .columns, s .pre .0 .parts, s .pre .0 .room)
 
 put-body-requires : tie.Need-put-body-requires
 put-body-requires c κs =
@@ -50,10 +47,7 @@ put-body-requires c κs =
     let s = b .before .before .before .before .before .before .before .before .before in
     let h = machs-long s in
     let e = line-long mach-name (machsOf (s .args .sheet .settings)) in
-    omega (arith, h, e, p .ensures .place, p .kept .1 .1 .0, q .ensures .1, q .kept .1 .1 .1 .0, s .pre .1, s .pre .0 .columns, s .pre .0 .parts, s .pre .0 .cells)
-
-same-length : tie.Need-same-length
-same-length c = search needs
+    omega (arith, h, e, p .ensures .place, p .kept .1 .1 .0, q .ensures .1, q .kept .1 .1 .1 .0, s .pre .1, s .pre .0 .columns, s .pre .0 .parts, s .pre .0 .room)
 
 returns : tie.Need-returns
 unfolding sheetText
@@ -76,11 +70,5 @@ pub put-sheet-spec : {M : Type 1} → statement M
 put-sheet-spec =
     tie.close
     (tie.spec
-    slice-aggregate-put-line
-    array-share-prefix-machs
-    slice-aggregate-put-line-2
-    put-line-requires
-    put-parts-requires
-    put-body-requires
-    same-length
-    returns)
+    (λ c. search needs) array-share-prefix-machs slice-aggregate-put-line-2 put-line-requires put-parts-requires put-body-requires
+    (λ c. search needs) returns)

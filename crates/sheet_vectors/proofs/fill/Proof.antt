@@ -1,4 +1,4 @@
--- `sheet_vectors::fill` is safe and ends: the slice keeps its length, and the measure is what is left of it. Assumes nothing.
+-- `sheet_vectors::fill` is safe and ends: the slice keeps its length, and the measure is what is left of it.
 use mathlib.Core.Path.{_≡_, refl}
 use Prim.Native.Nat.{_-_, _≤_}
 use native.Mathlib.Omega.{arith}
@@ -16,15 +16,7 @@ pub fill-spec : {M : Type 1} → statement M
 fill-spec =
     tie.close
     (tie.spec
-    Inv-loop
-    μ-loop
-    (λ c. (refl, omega arith))
-    (λ c κs. tt)
-    (λ c. omega arith)
-    (λ c. omega arith)
-    (λ c κs. tt)
-    (λ c. omega arith)
+    Inv-loop μ-loop (λ c. (refl, omega arith)) (λ c κs. tt) (λ c. omega arith) (λ c. omega arith) (λ c κs. tt) (λ c. omega arith)
     (λ c. omega arith)
     (λ c. (simp length-set (c .before .before .before .loop .inv .0), omega arith))
-    (λ c. c .before .loop .inv .0)
-    (λ c. tt))
+    (λ c. c .before .loop .inv .0) (λ c. tt))

@@ -1,6 +1,6 @@
--- `sheet_vectors::with_cells` is safe and ends: the measure is what is left of the cells. Assumes nothing.
-use Prim.Native.Nat.{_-_, _≤_}
+-- `sheet_vectors::with_cells` is safe and ends: the measure is what is left of the cells.
 use native.Mathlib.Omega.{arith}
+use Prim.Native.Nat.{_-_, _≤_}
 use lib.ListN.{length}
 use Rattle.sheet_vectors.proofs.with_cells.Statement.{statement}
 use Rattle.sheet_vectors.proofs.with_cells.Tie as tie
@@ -15,13 +15,5 @@ pub with-cells-spec : {M : Type 1} → statement M
 with-cells-spec =
     tie.close
     (tie.spec
-    Inv-loop
-    μ-loop
-    (λ c. omega arith)
-    (λ c. omega arith)
-    (λ c. omega arith)
-    (λ c κs. tt)
-    (λ c. omega arith)
-    (λ c. omega arith)
-    (λ c. omega arith)
-    (λ c. tt))
+    Inv-loop μ-loop (λ c. omega arith) (λ c. omega arith) (λ c. omega arith) (λ c κs. tt) (λ c κs. tt) (λ c. omega arith) (λ c. omega arith)
+    (λ c. omega arith) (λ c. tt))

@@ -1,5 +1,5 @@
 -- `before_first` meets its contract: each way returns what the definition picks by the same tests.
--- Assumes nothing.
+--
 use Rattle.stoney.specs.Lookup.{before}
 use Rattle.stoney.proofs.before_first.Statement.{statement}
 use Rattle.stoney.proofs.before_first.Tie as tie

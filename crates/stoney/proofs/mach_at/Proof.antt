@@ -1,5 +1,5 @@
 -- `mach_at` meets its contract, by computing: each of the 149 stored numbers is the binary64 number nearest the tabled one, and past them there is none.
--- Assumes nothing.
+--
 use mathlib.Core.Path.{ap, sym}
 use lib.Ieee.{ofBits, round}
 use lib.ListN.{List·getD-eq-default}
@@ -14,7 +14,6 @@ unfolding machAt points ofBits round
 mach-at-spec =
     tie.close
     (tie.spec
-    (λ c. search needs)
-    (λ c. search needs)
+    (λ c. search needs) (λ c. search needs)
     (λ c. ap (λ (p : Point). p .mach) (stored-at (c .before .args .place) (c .if1 .taken)))
     (λ c. ap (λ (p : Point). p .mach) (sym (List·getD-eq-default all-points no-point (c .if1 .left)))))

@@ -1,5 +1,4 @@
 -- `walk_points` meets its contract. The loop's invariant: the definition's walk goes on from the point (m0, c0) through the points from `place` on.
--- Assumes nothing.
 use Prim.Native.Nat.{_+_, _-_, _≤_}
 use mathlib.Core.Path.{_≡_, sym, _∙_}
 use native.Mathlib.Omega.{arith}
@@ -22,12 +21,6 @@ mul-m0 c = omega (arith, c .pre)
 element-copy-out-m0 : tie.Need-element-copy-out-m0 Inv-loop μ-loop
 element-copy-out-m0 c = omega (arith, c .pre)
 
-mul-c0 : tie.Need-mul-c0 Inv-loop μ-loop
-mul-c0 c = omega arith
-
-element-copy-out-c0 : tie.Need-element-copy-out-c0 Inv-loop μ-loop
-element-copy-out-c0 c = omega arith
-
 before-first-requires : tie.Need-before-first-requires Inv-loop μ-loop
 before-first-requires c κs = tt
 
@@ -43,39 +36,15 @@ loop-holds c =
     let a = s .args in
     (s .pre .some, from-first (a .machs .now) (a .drags .now) (a .mach) (a .first) (a .count) (s .pre .some) (c .if1 .left))
 
-add-m1 : tie.Need-add-m1 Inv-loop μ-loop
-add-m1 c = omega arith
-
-mul-m1 : tie.Need-mul-m1 Inv-loop μ-loop
-mul-m1 c = omega arith
-
-element-copy-out-m1 : tie.Need-element-copy-out-m1 Inv-loop μ-loop
-element-copy-out-m1 c = omega arith
-
-add-c1 : tie.Need-add-c1 Inv-loop μ-loop
-add-c1 c = omega arith
-
-mul-c1 : tie.Need-mul-c1 Inv-loop μ-loop
-mul-c1 c = omega arith
-
-element-copy-out-c1 : tie.Need-element-copy-out-c1 Inv-loop μ-loop
-element-copy-out-c1 c = omega arith
-
-between-requires : tie.Need-between-requires Inv-loop μ-loop
-between-requires c κs = tt
+on-line-requires : tie.Need-on-line-requires Inv-loop μ-loop
+on-line-requires c κs = tt
 
 returns-2 : tie.Need-returns-2 Inv-loop μ-loop
 returns-2 c =
     let l = c .before .before .before .before .before in
     let a = l .before .before .before .before .args in
     rw (l .loop .inv .1, before-next (a .machs .now) (a .drags .now) (a .mach) _ (a .first + l .loop .place) (a .count - l .loop .place) (omega arith) (c .before .if2 .taken))
-    (c .between .ensures)
-
-add-place : tie.Need-add-place Inv-loop μ-loop
-add-place c = omega arith
-
-loop-less : tie.Need-loop-less Inv-loop μ-loop
-loop-less c = omega arith
+    (c .on-line .ensures)
 
 loop-again : tie.Need-loop-again Inv-loop μ-loop
 loop-again c =
@@ -96,24 +65,6 @@ pub walk-points-spec : {M : Type 1} → statement M
 walk-points-spec =
     tie.close
     (tie.spec
-    Inv-loop
-    μ-loop
-    mul-m0
-    element-copy-out-m0
-    mul-c0
-    element-copy-out-c0
-    before-first-requires
-    returns
-    loop-holds
-    add-m1
-    mul-m1
-    element-copy-out-m1
-    add-c1
-    mul-c1
-    element-copy-out-c1
-    between-requires
-    returns-2
-    add-place
-    loop-less
-    loop-again
-    returns-3)
+    Inv-loop μ-loop mul-m0 element-copy-out-m0 (λ c. omega arith) (λ c. omega arith) before-first-requires returns loop-holds (λ c. omega arith)
+    (λ c. omega arith) (λ c. omega arith) (λ c. omega arith) (λ c. omega arith) (λ c. omega arith) on-line-requires returns-2 (λ c. omega arith)
+    (λ c. omega arith) loop-again returns-3)

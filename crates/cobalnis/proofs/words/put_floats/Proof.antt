@@ -6,6 +6,7 @@ use native.Mathlib.Omega.{arith}
 use lib.ListN.{length, set, drop, getD, drop-of-length-le}
 use lib.Seq.{sets}
 use lib.Ieee.{Float, nan, toBits, binary64}
+use Rattle.sheet_data.specs.Layout.{most-columns}
 use Rattle.cobalnis.specs.Words.{spread, floatWords}
 use Rattle.cobalnis.proofs.Turns.{spread-step}
 use borrow.Author.Needs.{needs}
@@ -13,41 +14,17 @@ use Rattle.cobalnis.proofs.words.put_floats.Statement.{statement}
 use Rattle.cobalnis.proofs.words.put_floats.Tie as tie
 
 abbrev Inv-loop : tie.InvT-loop
-Inv-loop words₀ start floats i₀ words i = (i ≤ 32) × (sets words₀ start (spread floatWords floats) ≡ sets words (start + i) (spread floatWords (drop i floats)))
+Inv-loop words₀ start floats i₀ words i = (i ≤ most-columns) × (sets words₀ start (spread floatWords floats) ≡ sets words (start + i) (spread floatWords (drop i floats)))
 
 abbrev μ-loop : tie.MeasureT-loop
-μ-loop words₀ start floats i₀ words i = 32 - i
+μ-loop words₀ start floats i₀ words i = most-columns - i
 
 -- the array holds 32 numbers
-long : (s : tie.Start Inv-loop μ-loop) → length (s .args .t1) ≡ 32
+long : (s : tie.Start Inv-loop μ-loop) → length (s .args .t1) ≡ most-columns
 long s = search needs
 
 loop-holds : tie.Need-loop-holds Inv-loop μ-loop
 loop-holds c = let e : c .args .start ≡ c .args .start + 0 = omega arith in (omega arith, ap (λ (k : ℕ). sets (c .args .words .now) k (spread floatWords (c .args .t1))) e)
-
-mul-to-bits : tie.Need-mul-to-bits Inv-loop μ-loop
-mul-to-bits c = omega arith
-
-array-read-to-bits : tie.Need-array-read-to-bits Inv-loop μ-loop
-array-read-to-bits c = omega arith
-
-to-bits-requires : tie.Need-to-bits-requires Inv-loop μ-loop
-to-bits-requires c κs = search needs
-
-add-words : tie.Need-add-words Inv-loop μ-loop
-add-words c = omega arith
-
-mul-words : tie.Need-mul-words Inv-loop μ-loop
-mul-words c = omega arith
-
-element-write-words : tie.Need-element-write-words Inv-loop μ-loop
-element-write-words c = omega arith
-
-add-i : tie.Need-add-i Inv-loop μ-loop
-add-i c = omega arith
-
-loop-less : tie.Need-loop-less Inv-loop μ-loop
-loop-less c = omega arith
 
 loop-again : tie.Need-loop-again Inv-loop μ-loop
 loop-again c =
@@ -74,16 +51,5 @@ pub put-floats-spec : {M : Type 1} → statement M
 put-floats-spec =
     tie.close
     (tie.spec
-    Inv-loop
-    μ-loop
-    loop-holds
-    mul-to-bits
-    array-read-to-bits
-    to-bits-requires
-    add-words
-    mul-words
-    element-write-words
-    add-i
-    loop-less
-    loop-again
-    returns)
+    Inv-loop μ-loop loop-holds (λ c. omega arith) (λ c. omega arith) (λ c κs. search needs) (λ c. omega arith) (λ c. omega arith)
+    (λ c. omega arith) (λ c. omega arith) (λ c. omega arith) loop-again returns)

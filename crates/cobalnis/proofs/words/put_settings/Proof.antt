@@ -5,6 +5,7 @@ use native.Mathlib.Omega.{arith}
 use Prim.Native.Nat.{ℕ, _+_}
 use lib.ListN.{length, set, length-map}
 use lib.Seq.{sets}
+use Rattle.sheet_data.specs.Layout.{most-columns}
 use Rattle.cobalnis.specs.Words.{spread, floatWords}
 use Rattle.sheet_text.proofs.Puts.{sets-append}
 use Rattle.cobalnis.proofs.Turns.{spread-long}
@@ -13,35 +14,8 @@ use Rattle.cobalnis.proofs.words.put_settings.Statement.{statement}
 use Rattle.cobalnis.proofs.words.put_settings.Tie as tie
 
 -- the array holds 32 Machs
-long : (s : tie.Start) → length (s .args .settings .machs) ≡ 32
+long : (s : tie.Start) → length (s .args .settings .machs) ≡ most-columns
 long s = simp length-map at (s .good .0 .1 .1 .1 .1 .1 .1 .0 .1 .0 .1)
-
-to-bits-requires : tie.Need-to-bits-requires
-to-bits-requires c κs = search needs
-
-element-write-words : tie.Need-element-write-words
-element-write-words c = search needs
-
-to-bits-requires-2 : tie.Need-to-bits-requires-2
-to-bits-requires-2 c κs = search needs
-
-element-write-words-2 : tie.Need-element-write-words-2
-element-write-words-2 c = search needs
-
-to-bits-requires-3 : tie.Need-to-bits-requires-3
-to-bits-requires-3 c κs = search needs
-
-element-write-words-3 : tie.Need-element-write-words-3
-element-write-words-3 c = search needs
-
-element-write-words-4 : tie.Need-element-write-words-4
-element-write-words-4 c = search needs
-
-put-floats-requires : tie.Need-put-floats-requires
-put-floats-requires c κs = search needs
-
-put-floats-requires-2 : tie.Need-put-floats-requires-2
-put-floats-requires-2 c κs = search needs
 
 returns : tie.Need-returns
 returns c =
@@ -63,13 +37,5 @@ pub put-settings-spec : {M : Type 1} → statement M
 put-settings-spec =
     tie.close
     (tie.spec
-    to-bits-requires
-    element-write-words
-    to-bits-requires-2
-    element-write-words-2
-    to-bits-requires-3
-    element-write-words-3
-    element-write-words-4
-    put-floats-requires
-    put-floats-requires-2
-    returns)
+    (λ c κs. search needs) (λ c. search needs) (λ c κs. search needs) (λ c. search needs) (λ c κs. search needs) (λ c. search needs)
+    (λ c. search needs) (λ c κs. search needs) (λ c κs. search needs) returns)

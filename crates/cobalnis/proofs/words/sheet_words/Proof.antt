@@ -5,7 +5,8 @@ use Prim.Native.Nat.{ℕ, _+_}
 use mathlib.Core.List.{List, _∷_, _++_}
 use lib.ListN.{length, replicate, length-map, length-append}
 use lib.Seq.{sets}
-use Rattle.cobalnis.specs.Words.{spread, floatWords, partWords, settingsWords, sheetWords}
+use Rattle.sheet_data.specs.Layout.{most-columns, most-parts}
+use Rattle.cobalnis.specs.Words.{part-words, settings-words, sheet-words, spread, floatWords, partWords, settingsWords, sheetWords}
 use Rattle.sheet_text.proofs.Puts.{sets-append}
 use Rattle.cobalnis.proofs.Turns.{spread-long, sets-all}
 use borrow.Author.Needs.{needs}
@@ -13,19 +14,10 @@ use Rattle.cobalnis.proofs.words.sheet_words.Statement.{statement}
 use Rattle.cobalnis.proofs.words.sheet_words.Tie as tie
 
 -- the arrays of a sheet hold 32 Machs, 32 Reynolds numbers and 16 parts
-long : (s : tie.Start) → (length (s .args .sheet .settings .machs) ≡ 32) × (length (s .args .sheet .settings .reynolds) ≡ 32) × (length (s .args .sheet .design .parts) ≡ 16)
+long : (s : tie.Start) → (length (s .args .sheet .settings .machs) ≡ most-columns) × (length (s .args .sheet .settings .reynolds) ≡ most-columns) × (length (s .args .sheet .design .parts) ≡ most-parts)
 long s =
     let g = s .good .0 .1 .1 in
     (simp length-map at (g .0 .1 .1 .1 .1 .1 .1 .0 .1 .0 .1), simp length-map at (g .0 .1 .1 .1 .1 .1 .1 .1 .0 .1 .0 .1), simp length-map at (g .1 .0 .1 .1 .1 .0 .1 .0 .1))
-
-put-settings-requires : tie.Need-put-settings-requires
-put-settings-requires c κs = search needs
-
-array-write-out : tie.Need-array-write-out
-array-write-out c = search needs
-
-put-parts-requires : tie.Need-put-parts-requires
-put-parts-requires c κs = search needs
 
 returns : tie.Need-returns
 unfolding sheetWords
@@ -33,20 +25,19 @@ returns c =
     let s = c .before .before .before .before .before .before .before in
     let a = s .args .sheet in
     let tail = spread partWords (a .design .parts) in
-    let zeros : List ℕ = replicate 165 0 in
+    let zeros : List ℕ = replicate sheet-words 0 in
     let m = spread-long floatWords 1 (λ x. refl) (a .settings .machs) in
     let r = spread-long floatWords 1 (λ x. refl) (a .settings .reynolds) in
-    let p = spread-long partWords 6 (λ x. refl) (a .design .parts) in
+    let p = spread-long partWords part-words (λ x. refl) (a .design .parts) in
     let j = length-append (spread floatWords (a .settings .machs)) (spread floatWords (a .settings .reynolds)) in
     let l = long s in
-    let e : 68 ≡ 0 + length (settingsWords (a .settings)) = omega (arith, m, r, j, l) in
+    let e : settings-words ≡ 0 + length (settingsWords (a .settings)) = omega (arith, m, r, j, l) in
     let whole = length-append (settingsWords (a .settings)) (a .design .count ∷ tail) in
     c .put-parts .ensures
-    ∙ ap (λ (us : List ℕ). sets us 68 (a .design .count ∷ tail)) (c .before .before .put-settings .ensures)
+    ∙ ap (λ (us : List ℕ). sets us settings-words (a .design .count ∷ tail)) (c .before .before .put-settings .ensures)
     ∙ ap (λ (k : ℕ). sets (sets zeros 0 (settingsWords (a .settings))) k (a .design .count ∷ tail)) e
     ∙ sym (sets-append (settingsWords (a .settings)) (a .design .count ∷ tail) zeros 0)
     ∙ sets-all (settingsWords (a .settings) ++ (a .design .count ∷ tail)) zeros (omega (arith, e, p, l, whole))
 
 pub sheet-words-spec : {M : Type 1} → statement M
-sheet-words-spec =
-    tie.close (tie.spec put-settings-requires array-write-out put-parts-requires returns)
+sheet-words-spec = tie.close (tie.spec (λ c κs. search needs) (λ c. search needs) (λ c κs. search needs) returns)

@@ -1,5 +1,4 @@
 -- `StoneyNose::first_mach` meets its contract: in each arm the place is where that nose's range begins, and its first point stands there.
--- Assumes nothing.
 use mathlib.Core.Path.{_≡_, sym, ap, _∙_}
 use native.Mathlib.Nat.{add-zero}
 use borrow.Author.Needs.{needs}
@@ -22,24 +21,9 @@ pub first-mach-spec : {M : Type 1} → statement M
 first-mach-spec =
     tie.close
     (tie.spec
-    (λ c. search needs)
-    (λ c κs. search needs)
-    (λ c. search needs)
-    (λ c κs. search needs)
-    (λ c. search needs)
-    (λ c κs. search needs)
-    (λ c. search needs)
-    (λ c κs. search needs)
-    (λ c. search needs)
-    (λ c κs. search needs)
-    (λ c. search needs)
-    (λ c κs. search needs)
-    (λ c. search needs)
-    (λ c κs. search needs)
-    (λ c. search needs)
-    (λ c κs. search needs)
-    (λ c. search needs)
-    (λ c κs. search needs)
+    (λ c. search needs) (λ c κs. search needs) (λ c. search needs) (λ c κs. search needs) (λ c. search needs) (λ c κs. search needs)
+    (λ c. search needs) (λ c κs. search needs) (λ c. search needs) (λ c κs. search needs) (λ c. search needs) (λ c κs. search needs)
+    (λ c. search needs) (λ c κs. search needs) (λ c. search needs) (λ c κs. search needs) (λ c. search needs) (λ c κs. search needs)
     (λ c. own _ PowerQuarter _ (c .before .enum-told .given .1) (c .mach-at .ensures))
     (λ c. own _ PowerHalf _ (c .before .enum-told2 .given .1) (c .mach-at2 .ensures))
     (λ c. own _ PowerThreeQuarters _ (c .before .enum-told3 .given .1) (c .mach-at3 .ensures))

@@ -1,5 +1,5 @@
 -- `StoneyNose::value_and_slope` meets its contract. By computing, the two arrays are the stored points (each number the nearest binary64 to the tabled one),
--- and in each arm the walk goes through that arm's nose. Assumes nothing.
+-- and in each arm the walk goes through that arm's nose.
 use borrow.Author.Needs.{needs}
 use mathlib.Core.Path.{_≡_, sym, ap, _∙_}
 use mathlib.Core.List.{List}
@@ -25,24 +25,9 @@ unfolding points all-points ofBits round
 value-and-slope-spec =
     tie.close
     (tie.spec
-    (λ c. search needs)
-    (λ c κs. search needs)
-    (λ c. search needs)
-    (λ c κs. search needs)
-    (λ c. search needs)
-    (λ c κs. search needs)
-    (λ c. search needs)
-    (λ c κs. search needs)
-    (λ c. search needs)
-    (λ c κs. search needs)
-    (λ c. search needs)
-    (λ c κs. search needs)
-    (λ c. search needs)
-    (λ c κs. search needs)
-    (λ c. search needs)
-    (λ c κs. search needs)
-    (λ c. search needs)
-    (λ c κs. search needs)
+    (λ c. search needs) (λ c κs. search needs) (λ c. search needs) (λ c κs. search needs) (λ c. search needs) (λ c κs. search needs)
+    (λ c. search needs) (λ c κs. search needs) (λ c. search needs) (λ c κs. search needs) (λ c. search needs) (λ c κs. search needs)
+    (λ c. search needs) (λ c κs. search needs) (λ c. search needs) (λ c κs. search needs) (λ c. search needs) (λ c κs. search needs)
     (λ c. own _ PowerQuarter _ _ (c .before .before .before .enum-told .given .1) (c .walk-points .ensures))
     (λ c. own _ PowerHalf _ _ (c .before .before .before .enum-told2 .given .1) (c .walk-points2 .ensures))
     (λ c. own _ PowerThreeQuarters _ _ (c .before .before .before .enum-told3 .given .1) (c .walk-points3 .ensures))

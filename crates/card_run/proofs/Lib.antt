@@ -1,0 +1,5 @@
+-- The laws that the proofs of a run share, and the laws about a whole stream.
+pub mod Stream
+pub mod Answers
+pub mod Prefix
+pub mod Never

@@ -1,0 +1,122 @@
+-- Any call on any sheet and cells: accepted, with what it leaves, or refused, with what was given. Nothing past the rows is written, and replacing a part writes
+-- no row but its own, the next part's, friction, base and total.
+use mathlib.Core.Path.{_≡_, refl, sym, ap, _∙_, subst}
+use mathlib.Core.Logic.{dite, _≢_}
+use mathlib.Core.List.{List, [], _∷_, _++_}
+use Prim.Native.Nat.{ℕ, _+_, _*_, _≤_, _<_}
+use native.Mathlib.Decide.{decLt}
+use native.Mathlib.Omega.{arith}
+use lib.ListN.{length, take, drop, length-set, length-append, length-drop}
+use lib.Seq.{length-take-le}
+use lib.Dec.{ltb}
+use lib.Ieee.{Float}
+use borrow.Author.Tests.{lt-ltb, le-ltb}
+use Rattle.aero_error.specs.declared.AeroError.{AeroError}
+use Rattle.aero_error.specs.declared.Check.{Check}
+use Rattle.aero_error.specs.declared.Check.the-variants.{Passed, Failed}
+use Rattle.aero_error.specs.CheckLaws.{both-passed}
+use Rattle.sheet_data.specs.declared.Part.{Part}
+use Rattle.sheet_data.specs.declared.Sheet.{Sheet}
+use Rattle.sheet_data.specs.Layout.{most-parts, finishes, total-row, needed}
+use Rattle.sheet_data.specs.Contents.{Contents, contentsOf, partsOf}
+use Rattle.sheet_data.specs.Rows.{Unnamed, rowAt}
+use Rattle.sheet_data.specs.RowLaws.{before-all}
+use Rattle.drag_sheet.specs.declared.Answer.{Answer}
+use Rattle.drag_sheet.specs.Writing.{overwritten}
+use Rattle.drag_sheet.specs.Calls.{Call, replace, insert, remove, setColumn, insertAt, removeAt, applied, bodyRows, replacedRows, scope, tries, after, callTest, decision, sheetWith, Called}
+use Rattle.drag_sheet.specs.Lists.{Arrays}
+use Rattle.drag_sheet.proofs.Verdicts.{never}
+use Rattle.drag_sheet.proofs.Slots.{inserted-long, removed-long}
+use Rattle.drag_sheet.proofs.Overwritten.{Inside, Keeps, keeps, other-rows}
+use Rattle.drag_sheet.proofs.Answers.{Facts, call-facts, Bounds, bounds}
+use Rattle.drag_sheet.proofs.Duties.{scope-inside, body-not-part}
+
+-- accepted, with the cells that the call leaves; or refused, with the sheet and the cells that were given
+pub data Verdict (call : Call) (sheet : Sheet) (xs : List Float) (r : Answer) (ys : List Float) : Type 0 where
+  accepted : decision call sheet (length xs) ≡ Passed → r ≡ record { outcome = Passed; sheet = sheetWith (after call sheet) sheet } → ys ≡ overwritten (scope call (after call sheet)) (after call sheet) xs
+      → Verdict call sheet xs r ys
+  refusal : (e : AeroError) → decision call sheet (length xs) ≡ Failed e → r ≡ record { outcome = Failed e; sheet = sheet } → ys ≡ xs → Verdict call sheet xs r ys
+
+pub verdict : (call : Call) (sheet : Sheet) (xs : List Float) (r : Answer) (ys : List Float) → Called call sheet xs r ys → Verdict call sheet xs r ys
+verdict call sheet xs r ys c = by (decision call sheet (length xs)) refl
+  where
+    by : (d : Check) → decision call sheet (length xs) ≡ d → Verdict call sheet xs r ys
+    by Passed p = accepted p (c .answer ∙ rw p) (c .left ∙ rw p)
+    by (Failed e) p = refusal e p (c .answer ∙ rw p) (c .left ∙ rw p)
+
+-- "a refused edit hands back the design and every lent cell unaltered"
+pub refused-unaltered : (call : Call) (sheet : Sheet) (xs : List Float) (r : Answer) (ys : List Float) (e : AeroError) → Called call sheet xs r ys → r .outcome ≡ Failed e → (r .sheet ≡ sheet) × (ys ≡ xs)
+refused-unaltered call sheet xs r ys e c o = by (verdict call sheet xs r ys c)
+  where
+    by : Verdict call sheet xs r ys → (r .sheet ≡ sheet) × (ys ≡ xs)
+    by (accepted p a l) = never o (ap (λ (x : Answer). x .outcome) a)
+    by (refusal x p a l) = (ap (λ (x : Answer). x .sheet) a, l)
+
+-- the parts that a call leaves are no more than there are slots
+pub parts-few : (call : Call) (c : Contents) → Bounds call (c .settings) (length (c .parts)) → length (c .parts) ≤ most-parts → length (applied call c .parts) ≤ most-parts
+parts-few (replace place p) c b few = rw (length-set (c .parts) place p) few
+parts-few (insert place p) c b few = omega (arith, inserted-long (c .parts) place p (b .0), b .1)
+parts-few (remove place) c b few = omega (arith, removed-long (c .parts) place b)
+parts-few (setColumn k M R) c b few = few
+
+-- ---- what an accepted call has shown
+
+pub record Accepted (call : Call) (sheet : Sheet) (xs : List Float) : Type 0 where
+  pub facts : Facts call sheet (length xs)
+  pub tried : tries call (after call sheet) ≡ Passed
+  pub long : length (partsOf (sheet .design)) ≡ sheet .design .count
+  pub within : Bounds call (sheet .settings) (length (partsOf (sheet .design)))
+  pub few : length (partsOf (sheet .design)) ≤ most-parts
+
+pub shown : (call : Call) (sheet : Sheet) (xs : List Float) → length (sheet .design .parts) ≡ most-parts → decision call sheet (length xs) ≡ Passed → Accepted call sheet xs
+shown call sheet xs slots p =
+    let b = both-passed (callTest call sheet (length xs)) (tries call (after call sheet)) p in
+    let f = call-facts call sheet (length xs) (b .first) in
+    let n : length (partsOf (sheet .design)) ≡ sheet .design .count = length-take-le (sheet .design .count) (sheet .design .parts) (omega (arith, f .fits .parts)) in
+    record {
+      facts = f;
+      tried = b .second;
+      long = n;
+      within = subst (Bounds call (sheet .settings)) (sym n) (bounds call (sheet .settings) (sheet .design .count) (f .arguments));
+      few = omega (arith, f .fits .parts);
+    }
+
+same-width : (call : Call) (c : Contents) → applied call c .settings .count ≡ c .settings .count
+same-width (replace place p) c = refl
+same-width (insert place p) c = refl
+same-width (remove place) c = refl
+same-width (setColumn k M R) c = refl
+
+-- an accepted call keeps the number of columns, the number of cells, and what lies past the rows
+pub record Left (call : Call) (sheet : Sheet) (xs : List Float) : Type 0 where
+  pub width : after call sheet .settings .count ≡ sheet .settings .count
+  pub cells : Keeps (sheet .settings .count) xs (overwritten (scope call (after call sheet)) (after call sheet) xs)
+
+pub left : (call : Call) (sheet : Sheet) (xs : List Float) → Accepted call sheet xs → Left call sheet xs
+left call sheet xs a =
+    let w = same-width call (contentsOf sheet) in
+    let new = after call sheet in
+    let room = a .facts .fits .room in
+    let k = keeps new xs (omega (arith, ap needed w)) (scope call new) (subst (Inside (scope call new)) (sym w) (scope-inside call (contentsOf sheet) (a .within) (a .few))) in
+    record { width = w; cells = record { long = k .long; past = subst (λ n. drop (needed n) (overwritten (scope call new) new xs) ≡ drop (needed n) xs) w (k .past) } }
+
+module _ (sheet : Sheet) (arrays : Arrays sheet) (xs : List Float) (r : Answer) (ys : List Float) where
+  -- "Cells past 19 × C are never written"
+  pub past-kept : (call : Call) → Called call sheet xs r ys → drop (needed (sheet .settings .count)) ys ≡ drop (needed (sheet .settings .count)) xs
+  past-kept call c = by (verdict call sheet xs r ys c)
+    where
+      by : Verdict call sheet xs r ys → drop (needed (sheet .settings .count)) ys ≡ drop (needed (sheet .settings .count)) xs
+      by (refusal e p a l) = rw l
+      by (accepted p a l) = rw l (left call sheet xs (shown call sheet xs (arrays .slots) p) .cells .past)
+
+  -- "Replacing a part changes no cells but its own row, the next part's, and the friction, base and total rows"
+  pub other-rows-kept : (place : ℕ) (p : Part) → Called (replace place p) sheet xs r ys → (row : ℕ) → row < most-parts → row ≢ place → row ≢ place + 1
+      → rowAt (sheet .settings .count) ys row ≡ rowAt (sheet .settings .count) xs row
+  other-rows-kept place p c row h i j = by (verdict (replace place p) sheet xs r ys c)
+    where
+      by : Verdict (replace place p) sheet xs r ys → rowAt (sheet .settings .count) ys row ≡ rowAt (sheet .settings .count) xs row
+      by (refusal e q a l) = rw l
+      by (accepted q a l) =
+          let s = shown (replace place p) sheet xs (arrays .slots) q in
+          let new = after (replace place p) sheet in
+          rw l (other-rows new xs (s .facts .fits .room) _ (scope-inside (replace place p) (contentsOf sheet) (s .within) (s .few)) row (omega arith) (body-not-part (contentsOf sheet) place p row h i j))

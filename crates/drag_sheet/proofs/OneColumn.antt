@@ -1,0 +1,56 @@
+-- A column by itself: the rows tried and the cells of a sheet with that column alone are those of the column in the sheet.
+use mathlib.Core.Path.{_≡_, refl, sym, ap, _∙_}
+use mathlib.Core.List.{List}
+use Prim.Native.Nat.{ℕ, zero, suc, _<_}
+use native.Mathlib.Omega.{arith}
+use lib.ListN.{length, getD, set, replicate}
+use lib.Seq.{getD-set-same}
+use lib.Ieee.{Float, nan}
+use Rattle.aero_error.specs.declared.Check.{Check}
+use Rattle.aero_error.specs.Checks.{_then_, upTo}
+use Rattle.aero_error.specs.CheckLaws.{up-one, up-same}
+use Rattle.sheet_data.specs.declared.Settings.{Settings}
+use Rattle.sheet_data.specs.declared.Part.{Part}
+use Rattle.sheet_data.specs.Layout.{finishes, all-rows}
+use Rattle.sheet_data.specs.Contents.{Contents, machAt, reynoldsAt}
+use Rattle.sheet_data.specs.Tables.{tab}
+use Rattle.sheet_data.specs.Rows.{laid}
+use Rattle.drag_sheet.specs.Formulas.{cellFrom, readyTest, madeTest, frictionCell, baseCell}
+use Rattle.drag_sheet.specs.Build.{Kind, part, friction, base, total, kindAt, preparedAt, partCell, kindCell, rowTest, trial, cellAt, rowOf, build}
+use Rattle.drag_sheet.specs.Calls.{withColumn, columnTrial}
+use Rattle.drag_sheet.specs.Edits.{oneColumn}
+
+module _ (s : Settings) (ps : List Part) (k : ℕ) (M R : Float) (machs : k < length (s .machs)) (reynolds : k < length (s .reynolds)) where
+  -- the sheet with that column alone, and the sheet with that column put anew
+  abbrev lone : Contents
+  lone = record { settings = oneColumn s M R; parts = ps }
+
+  abbrev put : Contents
+  put = record { settings = withColumn s k M R; parts = ps }
+
+  new-mach : machAt (withColumn s k M R) k ≡ M
+  new-mach = getD-set-same (s .machs) k M nan machs
+
+  new-reynolds : reynoldsAt (withColumn s k M R) k ≡ R
+  new-reynolds = getD-set-same (s .reynolds) k R nan reynolds
+
+  pub column-tried : trial (record { settings = oneColumn s M R; parts = ps }) ≡ columnTrial k (record { settings = withColumn s k M R; parts = ps })
+  unfolding trial rowTest columnTrial
+  column-tried = up-same _ _ (length ps) (λ i l. ap (λ t. readyTest (preparedAt lone i) then t) (up-one _ ∙ rw new-mach))
+
+  -- a cell depends on the settings only where they are the same
+  same-kind : (kind : Kind) → kindCell lone kind M R ≡ kindCell put kind M R
+  unfolding kindCell partCell frictionCell baseCell
+  same-kind (part i) = refl
+  same-kind (friction j) = refl
+  same-kind base = refl
+  same-kind (total j) = refl
+
+  one-each : (n : ℕ) (f : ℕ → ℕ → Float) (g : ℕ → Float) → ((r : ℕ) → f r 0 ≡ g r) → laid n (λ r. tab 1 (f r)) ≡ tab n g
+  unfolding laid tab
+  one-each zero f g h = refl
+  one-each (suc n) f g h = rw (h 0, one-each n (λ r. f (suc r)) (λ r. g (suc r)) (λ r. h (suc r)))
+
+  pub column-built : build (record { settings = oneColumn s M R; parts = ps }) ≡ tab (all-rows finishes) (λ r. cellAt (record { settings = withColumn s k M R; parts = ps }) r k)
+  unfolding build
+  column-built = one-each (all-rows finishes) (cellAt lone) (λ r. cellAt put r k) (λ r. same-kind (kindAt finishes r) ∙ rw (new-mach, new-reynolds))

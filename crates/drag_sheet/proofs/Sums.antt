@@ -1,0 +1,34 @@
+-- Sums from +0 by index.
+use mathlib.Core.Path.{_≡_, refl, ap, _∙_}
+use mathlib.Core.List.{List}
+use Prim.Native.Nat.{ℕ, zero, suc, _+_, _-_, _*_, _<_}
+use native.Mathlib.Numerals.{add-one}
+use native.Mathlib.Omega.{arith}
+use lib.ListN.{length, getD, take, drop}
+use lib.Ieee.{Float, nan}
+use Rattle.elementary.specs.Arithmetic.{_⊕_}
+use Rattle.elementary.specs.Constants.{0·0}
+use Rattle.sheet_data.specs.Tables.{tab, tab-long, tab-at, tab-same}
+use Rattle.drag_sheet.specs.Formulas.{sumTo}
+use Rattle.drag_sheet.specs.Writing.{there}
+
+pub sum-none : (f : ℕ → Float) → sumTo 0 f ≡ 0·0
+unfolding sumTo
+sum-none f = refl
+
+pub sum-more : (n : ℕ) (f : ℕ → Float) → sumTo (n + 1) f ≡ sumTo n f ⊕ f n
+unfolding sumTo
+sum-more n f = rw (add-one n)
+
+pub sum-same : (n : ℕ) (f g : ℕ → Float) → ((i : ℕ) → i < n → f i ≡ g i) → sumTo n f ≡ sumTo n g
+unfolding sumTo
+sum-same zero f g h = refl
+sum-same (suc n) f g h = rw (sum-same n f g (λ i l. h i (omega arith)), h n (omega arith))
+
+-- a row that is there added to a sum
+pub add-there : (C r at : ℕ) (xs sum out : List Float) (g : ℕ → Float) → at ≡ r * C → sum ≡ tab C g
+    → out ≡ tab (length sum) (λ k. getD sum k nan ⊕ getD (take (at + C - at) (drop at xs)) k nan) → out ≡ tab C (λ k. g k ⊕ there C xs r k)
+add-there C r at xs sum out g e s h =
+    let w : at + C - at ≡ C = omega arith in
+    let l : length sum ≡ C = ap length s ∙ tab-long C g in
+    h ∙ rw (l, w) (tab-same C _ _ (λ k m. rw (e, s, tab-at C g nan k m)))

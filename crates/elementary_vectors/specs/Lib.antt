@@ -1,2 +1,0 @@
--- When a stored line of the elementary functions agrees.
-pub mod Lines

@@ -1,0 +1,2 @@
+-- When a stored line of the formulas, noses and curves agrees.
+pub mod Lines
