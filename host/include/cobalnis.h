@@ -180,22 +180,26 @@ uint32_t cobalnis_curve(uint64_t shape, double parameter, double fineness_ratio,
 /* The sheet's calls. Accepted: the words are the sheet handed back. Refused:
  * words and cells are untouched, and bits is the value refused. Open looks at
  * the settings' words only and empties the design. */
-uint32_t cobalnis_open(uint64_t sheet[COBALNIS_SHEET_WORDS], double *cells, size_t lent, uint64_t *bits);
-uint32_t cobalnis_insert(uint64_t sheet[COBALNIS_SHEET_WORDS], size_t place, const uint64_t part[COBALNIS_PART_WORDS], double *cells,
-                         size_t lent, uint64_t *bits);
-uint32_t cobalnis_replace(uint64_t sheet[COBALNIS_SHEET_WORDS], size_t place, const uint64_t part[COBALNIS_PART_WORDS], double *cells,
-                          size_t lent, uint64_t *bits);
-uint32_t cobalnis_remove(uint64_t sheet[COBALNIS_SHEET_WORDS], size_t place, double *cells, size_t lent,
-                         uint64_t *bits);
-uint32_t cobalnis_set_column(uint64_t sheet[COBALNIS_SHEET_WORDS], size_t column, double mach, double reynolds,
-                             double *cells, size_t lent, uint64_t *bits);
+uint32_t cobalnis_open(uint64_t sheet[COBALNIS_SHEET_WORDS], double *cells,
+                       size_t cell_count, uint64_t *bits);
+uint32_t cobalnis_insert(uint64_t sheet[COBALNIS_SHEET_WORDS], size_t place,
+                         const uint64_t part[COBALNIS_PART_WORDS], double *cells,
+                         size_t cell_count, uint64_t *bits);
+uint32_t cobalnis_replace(uint64_t sheet[COBALNIS_SHEET_WORDS], size_t place,
+                          const uint64_t part[COBALNIS_PART_WORDS], double *cells,
+                          size_t cell_count, uint64_t *bits);
+uint32_t cobalnis_remove(uint64_t sheet[COBALNIS_SHEET_WORDS], size_t place,
+                         double *cells, size_t cell_count, uint64_t *bits);
+uint32_t cobalnis_set_column(uint64_t sheet[COBALNIS_SHEET_WORDS], size_t column,
+                             double mach, double reynolds, double *cells,
+                             size_t cell_count, uint64_t *bits);
 
 /* Reads a card from the byte `at` on; next: where it ends. A settings card
  * fills the words of a sheet's settings. Refused: nothing is written. */
-uint32_t cobalnis_read_settings(const uint8_t *bytes, size_t n, size_t at, uint64_t sheet[COBALNIS_SHEET_WORDS],
-                                size_t *next);
-uint32_t cobalnis_read_part(const uint8_t *bytes, size_t n, size_t at, uint64_t part[COBALNIS_PART_WORDS],
-                            size_t *next);
+uint32_t cobalnis_read_settings(const uint8_t *bytes, size_t n, size_t at,
+                                uint64_t sheet[COBALNIS_SHEET_WORDS], size_t *next);
+uint32_t cobalnis_read_part(const uint8_t *bytes, size_t n, size_t at,
+                            uint64_t part[COBALNIS_PART_WORDS], size_t *next);
 
 /* What the program `sheet` prints for these bytes, and how many bytes that
  * is; 0 where out has fewer than COBALNIS_LONGEST_TEXT. */
@@ -538,49 +542,49 @@ static inline uint32_t cobalnis_curve_coefficient(const cobalnis_pressure_drag_c
 
 /* ---- the sheet; value is the value refused */
 
-static inline uint32_t cobalnis_sheet_open(cobalnis_sheet *sheet, double *cells, size_t lent,
+static inline uint32_t cobalnis_sheet_open(cobalnis_sheet *sheet, double *cells, size_t cell_count,
                                            double *value)
 {
     uint64_t bits = 0;
-    uint32_t status = cobalnis_open(cobalnis_words_of(sheet), cells, lent, &bits);
+    uint32_t status = cobalnis_open(cobalnis_words_of(sheet), cells, cell_count, &bits);
     return cobalnis_answer(status, bits, value);
 }
 
 static inline uint32_t cobalnis_sheet_insert(cobalnis_sheet *sheet, size_t place,
-                                             cobalnis_part part, double *cells, size_t lent,
+                                             cobalnis_part part, double *cells, size_t cell_count,
                                              double *value)
 {
     uint64_t bits = 0;
     uint32_t status = cobalnis_insert(cobalnis_words_of(sheet), place, cobalnis_words_of(&part),
-                                      cells, lent, &bits);
+                                      cells, cell_count, &bits);
     return cobalnis_answer(status, bits, value);
 }
 
 static inline uint32_t cobalnis_sheet_replace(cobalnis_sheet *sheet, size_t place,
-                                              cobalnis_part part, double *cells, size_t lent,
+                                              cobalnis_part part, double *cells, size_t cell_count,
                                               double *value)
 {
     uint64_t bits = 0;
     uint32_t status = cobalnis_replace(cobalnis_words_of(sheet), place, cobalnis_words_of(&part),
-                                       cells, lent, &bits);
+                                       cells, cell_count, &bits);
     return cobalnis_answer(status, bits, value);
 }
 
 static inline uint32_t cobalnis_sheet_remove(cobalnis_sheet *sheet, size_t place, double *cells,
-                                             size_t lent, double *value)
+                                             size_t cell_count, double *value)
 {
     uint64_t bits = 0;
-    uint32_t status = cobalnis_remove(cobalnis_words_of(sheet), place, cells, lent, &bits);
+    uint32_t status = cobalnis_remove(cobalnis_words_of(sheet), place, cells, cell_count, &bits);
     return cobalnis_answer(status, bits, value);
 }
 
 static inline uint32_t cobalnis_sheet_set_column(cobalnis_sheet *sheet, size_t column, double mach,
-                                                 double reynolds, double *cells, size_t lent,
+                                                 double reynolds, double *cells, size_t cell_count,
                                                  double *value)
 {
     uint64_t bits = 0;
     uint32_t status = cobalnis_set_column(cobalnis_words_of(sheet), column, mach, reynolds, cells,
-                                          lent, &bits);
+                                          cell_count, &bits);
     return cobalnis_answer(status, bits, value);
 }
 

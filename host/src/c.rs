@@ -57,7 +57,7 @@ pub mod raw {
         pub fn cobalnis_open(
             sheet: *mut SheetWords,
             cells: *mut f64,
-            lent: usize,
+            cell_count: usize,
             bits: *mut u64,
         ) -> u32;
         pub fn cobalnis_insert(
@@ -65,7 +65,7 @@ pub mod raw {
             place: usize,
             part: *const PartWords,
             cells: *mut f64,
-            lent: usize,
+            cell_count: usize,
             bits: *mut u64,
         ) -> u32;
         pub fn cobalnis_replace(
@@ -73,14 +73,14 @@ pub mod raw {
             place: usize,
             part: *const PartWords,
             cells: *mut f64,
-            lent: usize,
+            cell_count: usize,
             bits: *mut u64,
         ) -> u32;
         pub fn cobalnis_remove(
             sheet: *mut SheetWords,
             place: usize,
             cells: *mut f64,
-            lent: usize,
+            cell_count: usize,
             bits: *mut u64,
         ) -> u32;
         pub fn cobalnis_set_column(
@@ -89,7 +89,7 @@ pub mod raw {
             mach: f64,
             reynolds: f64,
             cells: *mut f64,
-            lent: usize,
+            cell_count: usize,
             bits: *mut u64,
         ) -> u32;
         pub fn cobalnis_read_settings(

@@ -193,10 +193,10 @@ static void curves(void)
 }
 
 /* The sheet of docs/REFERENCE.md, Example, opened over these cells. */
-static cobalnis_sheet example(double *cells, size_t lent)
+static cobalnis_sheet example(double *cells, size_t cell_count)
 {
     cobalnis_sheet sheet = {.reference_diameter = 1, .body_fineness = 1, .columns = 1};
-    CHECK(cobalnis_sheet_open(&sheet, cells, lent, NULL) == 0);
+    CHECK(cobalnis_sheet_open(&sheet, cells, cell_count, NULL) == 0);
     return sheet;
 }
 
