@@ -14,7 +14,7 @@ most-columns = 32
 abbrev pub most-finishes : ℕ
 most-finishes = 1
 
--- how many finishes a sheet has; the laws below are all that a proof needs of it
+-- how many finishes a sheet has; laws use what is shown of it below, and only proofs that meet the code's own numbers open it
 unfoldable pub finishes : ℕ
 finishes = 1
 
