@@ -53,10 +53,10 @@ pub unsafe extern "C" fn curve(
 pub unsafe extern "C" fn open(
     sheet: *mut SheetWords,
     cells: *mut f64,
-    lent: usize,
+    cell_count: usize,
     bits: *mut u64,
 ) -> u32 {
-    let (status, answer) = mirror::open(&mut *sheet, from_raw_parts_mut(cells, lent));
+    let (status, answer) = mirror::open(&mut *sheet, from_raw_parts_mut(cells, cell_count));
     *bits = answer;
     status
 }
@@ -67,10 +67,10 @@ pub unsafe extern "C" fn insert(
     place: usize,
     part: *const PartWords,
     cells: *mut f64,
-    lent: usize,
+    cell_count: usize,
     bits: *mut u64,
 ) -> u32 {
-    let cells = from_raw_parts_mut(cells, lent);
+    let cells = from_raw_parts_mut(cells, cell_count);
     let (status, answer) = mirror::insert(&mut *sheet, place, &*part, cells);
     *bits = answer;
     status
@@ -82,10 +82,10 @@ pub unsafe extern "C" fn replace(
     place: usize,
     part: *const PartWords,
     cells: *mut f64,
-    lent: usize,
+    cell_count: usize,
     bits: *mut u64,
 ) -> u32 {
-    let cells = from_raw_parts_mut(cells, lent);
+    let cells = from_raw_parts_mut(cells, cell_count);
     let (status, answer) = mirror::replace(&mut *sheet, place, &*part, cells);
     *bits = answer;
     status
@@ -96,10 +96,10 @@ pub unsafe extern "C" fn remove(
     sheet: *mut SheetWords,
     place: usize,
     cells: *mut f64,
-    lent: usize,
+    cell_count: usize,
     bits: *mut u64,
 ) -> u32 {
-    let cells = from_raw_parts_mut(cells, lent);
+    let cells = from_raw_parts_mut(cells, cell_count);
     let (status, answer) = mirror::remove(&mut *sheet, place, cells);
     *bits = answer;
     status
@@ -112,10 +112,10 @@ pub unsafe extern "C" fn set_column(
     mach: f64,
     reynolds: f64,
     cells: *mut f64,
-    lent: usize,
+    cell_count: usize,
     bits: *mut u64,
 ) -> u32 {
-    let cells = from_raw_parts_mut(cells, lent);
+    let cells = from_raw_parts_mut(cells, cell_count);
     let (status, answer) = mirror::set_column(&mut *sheet, column, mach, reynolds, cells);
     *bits = answer;
     status

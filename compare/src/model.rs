@@ -112,7 +112,7 @@ fn test_column(column: Column) -> Result<(), Refusal> {
 }
 
 /// "Open: 7, 11 for D, then roughness, 1 for B, 1 for each column (M, R), 10."
-fn test_settings(settings: &Settings, lent: usize) -> Result<(), Refusal> {
+fn test_settings(settings: &Settings, cell_count: usize) -> Result<(), Refusal> {
     if settings.count > COLUMNS {
         return Err(Answer::refused(7));
     }
@@ -122,7 +122,7 @@ fn test_settings(settings: &Settings, lent: usize) -> Result<(), Refusal> {
     for &column in settings.columns() {
         test_column(column)?;
     }
-    if lent < ROWS * settings.count {
+    if cell_count < ROWS * settings.count {
         return Err(Answer::refused(10));
     }
     Ok(())
@@ -137,8 +137,8 @@ fn test_part(part: &Part) -> Result<(), Refusal> {
 
 /// "Edits and set column first test the sheet given: its settings as at open (10 last), 9 for a
 /// count above 16, 11 for held L, d, w by place."
-fn test_sheet(sheet: &Sheet, lent: usize) -> Result<(), Refusal> {
-    test_settings(&sheet.settings, lent)?;
+fn test_sheet(sheet: &Sheet, cell_count: usize) -> Result<(), Refusal> {
+    test_settings(&sheet.settings, cell_count)?;
     if sheet.design.count > PLACES {
         return Err(Answer::refused(9));
     }

@@ -61,10 +61,10 @@ fn the_papers_sheet() {
 
 #[test]
 fn refusals_of_the_table() {
-    let number = |columns: usize, lent: usize| {
+    let number = |columns: usize, cell_count: usize| {
         let mut given = settings(&[REST; COLUMNS]);
         given.count = columns;
-        open(&given, &mut vec![0.0; lent]).0.refusal
+        open(&given, &mut vec![0.0; cell_count]).0.refusal
     };
     assert_eq!(number(33, 1000), 7);
     assert_eq!(number(1, 18), 10);

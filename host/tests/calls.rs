@@ -320,8 +320,8 @@ fn nan_cells_have_the_papers_bits() {
 
 #[test]
 fn opens_refused() {
-    let number = |settings: &Settings, lent: usize| {
-        Sheet::open(settings, &mut vec![0.0; lent])
+    let number = |settings: &Settings, cell_count: usize| {
+        Sheet::open(settings, &mut vec![0.0; cell_count])
             .map(|_| ())
             .map_err(|refusal| refusal.number)
     };
@@ -421,5 +421,5 @@ fn words_that_name_nothing() {
     let mut sheet = [0; words::SHEET_WORDS];
     sheet[words::SHEET_WORDS - words::PART_WORDS] = 6;
     assert_eq!(words::remove(&mut sheet, 0, &mut []), (5, 0));
-    assert_eq!(words::print(&stream(), &mut [0; 11032]), 0);
+    assert_eq!(words::print(&stream(), &mut [0; words::LONGEST_TEXT - 1]), 0);
 }

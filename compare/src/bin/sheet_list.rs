@@ -8,14 +8,15 @@
 //! after the line. The tags and their arguments are listed at the top of
 //! crates/sheet_vectors/src/main.rt.
 //!
-//! The state is a sheet's words and a buffer of 640 cells, all zeros before the first line. A call
+//! The state is a sheet's words and a buffer of cells, one row more than the
+//! largest sheet has, all zeros before the first line. A call
 //! takes the words and the first so many cells of the buffer. Lines that change the state by hand are
 //! accepted always, so that a call meets any sheet and any cells.
 //!
 //! The state's number h is made of 64-bit words x, one after the other, from h = 0xcbf29ce484222325:
 //! h is h xor x, turned left by 23 bits, times 0x100000001b3 without carry out of 64 bits. The
 //! words: D, roughness, B, the count of columns, M and R of each column (32 at most), the count of
-//! parts, each part's six words (16 parts at most), and the 640 cells. Every NaN is
+//! parts, each part's six words (16 parts at most), and all cells of the buffer. Every NaN is
 //! 7ff8000000000000, and a shape without a parameter has zeros for it.
 
 use std::io::{BufWriter, StdoutLock, Write};
@@ -34,7 +35,8 @@ use compare::model::{
 use compare::original_fixed::NoseShape;
 use compare::refusals::Answer;
 
-const BUFFER: usize = 640;
+/// Cells of the largest sheet, and a row more.
+const BUFFER: usize = (ROWS + 1) * COLUMNS;
 
 /// The state's number so far, and one word more.
 fn mixed(h: u64, x: u64) -> u64 {
@@ -69,7 +71,7 @@ struct Play {
     args: Arguments,
     sheet: Sheet,
     cells: Vec<f64>,
-    lent: usize,
+    cell_count: usize,
     calls: usize,
 }
 
@@ -149,9 +151,9 @@ impl Play {
         self.words(PARTS, &[count as u64]);
     }
 
-    fn lend(&mut self, lent: usize) {
-        self.lent = lent;
-        self.line('l', &[lent as u64], Answer::accepted(0));
+    fn lend(&mut self, cell_count: usize) {
+        self.cell_count = cell_count;
+        self.line('l', &[cell_count as u64], Answer::accepted(0));
     }
 
     fn fill(&mut self, first: u64, step: u64) {
@@ -178,27 +180,27 @@ impl Play {
     }
 
     fn open(&mut self) -> Answer {
-        let back = open(&self.sheet.settings, &mut self.cells[..self.lent]);
+        let back = open(&self.sheet.settings, &mut self.cells[..self.cell_count]);
         self.handed('o', &[], back)
     }
 
     fn replace(&mut self, place: usize, part: Part) -> Answer {
-        let back = replace(&self.sheet, place, &part, &mut self.cells[..self.lent]);
+        let back = replace(&self.sheet, place, &part, &mut self.cells[..self.cell_count]);
         self.handed('r', &put(place, &part), back)
     }
 
     fn insert(&mut self, place: usize, part: Part) -> Answer {
-        let back = insert(&self.sheet, place, &part, &mut self.cells[..self.lent]);
+        let back = insert(&self.sheet, place, &part, &mut self.cells[..self.cell_count]);
         self.handed('i', &put(place, &part), back)
     }
 
     fn remove(&mut self, place: usize) -> Answer {
-        let back = remove(&self.sheet, place, &mut self.cells[..self.lent]);
+        let back = remove(&self.sheet, place, &mut self.cells[..self.cell_count]);
         self.handed('m', &[place as u64], back)
     }
 
     fn set_column(&mut self, at: usize, column: Column) -> Answer {
-        let back = set_column(&self.sheet, at, column, &mut self.cells[..self.lent]);
+        let back = set_column(&self.sheet, at, column, &mut self.cells[..self.cell_count]);
         let args = [at as u64, column.mach.to_bits(), column.reynolds.to_bits()];
         self.handed('t', &args, back)
     }
@@ -232,12 +234,12 @@ impl Play {
             _ => self.args.random.between(1.0, 30.0),
         };
         self.settings(d, roughness, b, count);
-        let lent = match self.args.below(3) {
+        let cell_count = match self.args.below(3) {
             0 => BUFFER,
             1 => ROWS * count,
             _ => ROWS * count + self.args.below(BUFFER - ROWS * count + 1),
         };
-        self.lend(lent);
+        self.lend(cell_count);
         assert_eq!(self.open().refusal, 0);
     }
 
@@ -291,7 +293,7 @@ impl Play {
     /// A sheet given that no call would hand back: settings, counts and held parts out of range.
     fn broken_sheet(&mut self) {
         let whole = self.sheet;
-        let lent = self.lent;
+        let cell_count = self.cell_count;
         let count = whole.settings.count;
         for _ in 0..3 {
             for _ in 0..1 + self.args.below(3) {
@@ -354,7 +356,7 @@ impl Play {
         if self.sheet.design.count != whole.design.count {
             self.parts(whole.design.count);
         }
-        self.lend(lent);
+        self.lend(cell_count);
     }
 
     /// Opens that are refused, with several reasons at once, and accepted ones between.
@@ -380,12 +382,12 @@ impl Play {
             };
             self.settings(d, roughness, b, count);
             let enough = ROWS * count.min(COLUMNS);
-            let lent = match self.args.below(4) {
+            let cell_count = match self.args.below(4) {
                 0 => enough.saturating_sub(1),
                 1 => self.args.below(enough + 1),
                 _ => enough,
             };
-            self.lend(lent);
+            self.lend(cell_count);
             self.open();
         }
         for x in specials() {
@@ -544,7 +546,7 @@ impl Play {
                 self.broken_sheet();
             }
             self.any_call(bad, odd);
-            if self.lent < ROWS * self.sheet.settings.count {
+            if self.cell_count < ROWS * self.sheet.settings.count {
                 self.lend(ROWS * self.sheet.settings.count);
             }
         }
@@ -572,7 +574,7 @@ fn main() {
             },
         },
         cells: vec![0.0; BUFFER],
-        lent: 0,
+        cell_count: 0,
         calls: 0,
     };
     // The sheet of docs/REFERENCE.md, Example.

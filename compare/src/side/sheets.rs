@@ -130,11 +130,11 @@ fn same_bits(a: &[f64], b: &[f64]) -> bool {
 
 impl Play {
     /// The call on both sides, from the same sheet and cells.
-    fn call(&mut self, call: Call, lent: usize) {
+    fn call(&mut self, call: Call, cell_count: usize) {
         let (given, before) = (self.sheet, self.cells.clone());
         let (mut theirs, mut their_cells) = (given, before.clone());
-        let port = call.of_port(&mut self.sheet, &mut self.cells[..lent]);
-        let model = call.of_model(&mut theirs, &mut their_cells[..lent]);
+        let port = call.of_port(&mut self.sheet, &mut self.cells[..cell_count]);
+        let model = call.of_model(&mut theirs, &mut their_cells[..cell_count]);
         let agree = port == model
             && same_cells(&self.cells, &their_cells)
             && if model.0 == 0 {
@@ -143,7 +143,7 @@ impl Play {
                 self.sheet == given && same_bits(&self.cells, &before)
             };
         self.rows[call.row()].note(model.0, agree, || {
-            format!("{call:x?}, {lent} lent, port {port:x?}, model {model:x?}, on {given:x?}")
+            format!("{call:x?}, {cell_count} cells, port {port:x?}, model {model:x?}, on {given:x?}")
         });
         if !agree {
             // Go on from what the model has, so that one slip isn't told twice.
@@ -160,7 +160,7 @@ impl Play {
     }
 
     /// Cells enough, or seldom too few.
-    fn lent(&mut self) -> usize {
+    fn cell_count(&mut self) -> usize {
         let enough = ROWS * self.columns();
         match self.args.below(60) {
             0 => enough.saturating_sub(1),
@@ -218,8 +218,8 @@ impl Play {
             self.sheet[MACHS + at] = column.mach.to_bits();
             self.sheet[REYNOLDS + at] = column.reynolds.to_bits();
         }
-        let lent = self.lent();
-        self.call(Call::Open, lent);
+        let cell_count = self.cell_count();
+        self.call(Call::Open, cell_count);
     }
 
     /// A part's words; the shape's number is none of the six seldom.
@@ -301,8 +301,8 @@ impl Play {
                 self.damage();
             }
             let call = self.a_call();
-            let lent = self.lent();
-            self.call(call, lent);
+            let cell_count = self.cell_count();
+            self.call(call, cell_count);
             if damaged {
                 self.sheet = whole;
             }

@@ -1,28 +1,29 @@
--- The row of a part as the functions make it, and the friction, base and total rows written one after the other.
+-- The rows as the functions make them: a part's, the friction rows, the base row, and the totals written one after the other.
 use mathlib.Core.Path.{_≡_, refl, sym, ap, _∙_}
 use mathlib.Core.List.{List}
-use Prim.Native.Nat.{ℕ, _+_, _*_, _≤_, _<_}
+use Prim.Native.Nat.{ℕ, _+_, _-_, _*_, _≤_, _<_}
 use native.Mathlib.Omega.{arith}
-use lib.ListN.{length, take}
+use lib.ListN.{length, getD, take}
 use lib.Seq.{length-take-le}
-use lib.Ieee.{Float}
+use lib.Ieee.{Float, nan}
 use Rattle.aero_error.specs.declared.Check.{Check}
 use Rattle.sheet_data.specs.declared.Settings.{Settings}
 use Rattle.sheet_data.specs.declared.Part.{Part}
 use Rattle.sheet_data.specs.declared.Sheet.{Sheet}
-use Rattle.sheet_data.specs.Layout.{most-parts, finishes, friction-row, base-row, total-row}
+use Rattle.sheet_data.specs.Layout.{most-parts, finishes, friction-row, base-row, total-row, all-rows, needed}
 use Rattle.sheet_data.specs.Contents.{Contents, contentsOf, partsOf, partAt, part-taken, foreAt, machAt, reynoldsAt}
-use Rattle.sheet_data.specs.Tables.{tab, tab-same}
-use Rattle.sheet_data.specs.Rows.{written, rowsWritten}
+use Rattle.sheet_data.specs.Tables.{tab, tab-long, tab-same}
+use Rattle.sheet_data.specs.Rows.{from, rowAt, written}
+use Rattle.sheet_data.specs.RowLaws.{from-below, before-all, wrote, RowsDone, rows-next}
 use Rattle.drag_sheet.specs.declared.body.BodyRow.{BodyRow}
-use Rattle.drag_sheet.specs.Formulas.{preparedOf, frictionCell, baseCell}
+use Rattle.drag_sheet.specs.Formulas.{preparedOf}
 use Rattle.drag_sheet.specs.Body.{bodyCell, frictionRow, baseRow, friction-same, base-same}
 use Rattle.drag_sheet.specs.Build.{kindCell, preparedAt, rowTestFrom, rowFrom, rowTest, rowOf}
-use Rattle.drag_sheet.specs.Writing.{Filled, totalThere, totalled}
-use Rattle.drag_sheet.specs.Calls.{bodyRows}
+use Rattle.drag_sheet.specs.Writing.{Filled, there, totalThere}
 use Rattle.drag_sheet.specs.Edits.{RowAsked}
 use Rattle.drag_sheet.proofs.Verdicts.{filled-same}
-use Rattle.drag_sheet.proofs.RowKinds.{part-row, fore-taken}
+use Rattle.drag_sheet.proofs.Sums.{sum-same}
+use Rattle.drag_sheet.proofs.RowKinds.{kind-friction, kind-base, part-row, fore-taken}
 
 -- what was prepared for a place of a sheet is what its contents have there
 pub row-made : (sheet : Sheet) (place : ℕ) (f : Float) (p : Part) → length (sheet .design .parts) ≡ most-parts → {width : ℕ} → RowAsked sheet place width
@@ -37,20 +38,39 @@ row-made sheet place f p l a e q h =
     rw (e, q, fore-taken (d .count) place (d .parts) (omega (arith, a .inside)), part-taken (d .count) place (d .parts) (a .inside)) in
     filled-same (rw same) (rw same (part-row (contentsOf sheet) place (omega (arith, a .parts, a .inside)) (omega (arith, a .inside)))) h
 
--- the three rows
-pub finish-steps : (sheet : Sheet) (xs a b d : List Float) (f g : BodyRow) (i j : ℕ) → i ≡ friction-row 0 * sheet .settings .count → j ≡ base-row finishes * sheet .settings .count
-    → f ≡ frictionRow (contentsOf sheet) → g ≡ baseRow (contentsOf sheet)
-    → a ≡ written i (tab (sheet .settings .count) (λ k. bodyCell f (machAt (sheet .settings) k) (reynoldsAt (sheet .settings) k))) xs
-    → b ≡ written j (tab (sheet .settings .count) (λ k. bodyCell g (machAt (sheet .settings) k) (reynoldsAt (sheet .settings) k))) a
-    → d ≡ written (total-row finishes 0 * sheet .settings .count) (totalThere (sheet .settings .count) b 0) b
-    → d ≡ totalled (sheet .settings .count) (rowsWritten (sheet .settings .count) (rowOf (contentsOf sheet)) bodyRows xs)
-unfolding finishes totalled rowsWritten bodyRows kindCell
-finish-steps sheet xs a b d f g i j p q u v k l m =
-    let s = sheet .settings in
-    let C = s .count in
-    let c = contentsOf sheet in
-    let rubbed : tab C (λ k. bodyCell f (machAt s k) (reynoldsAt s k)) ≡ rowOf c (friction-row 0) = rw u (tab-same C _ _ (λ k h. friction-same c (machAt s k) (reynoldsAt s k))) in
-    let behind : tab C (λ k. bodyCell g (machAt s k) (reynoldsAt s k)) ≡ rowOf c (base-row finishes) = rw v (tab-same C _ _ (λ k h. base-same c (machAt s k) (reynoldsAt s k))) in
-    let first : a ≡ written (friction-row 0 * C) (rowOf c (friction-row 0)) xs = k ∙ rw (p, rubbed) in
-    let second : b ≡ written (base-row finishes * C) (rowOf c (base-row finishes)) (written (friction-row 0 * C) (rowOf c (friction-row 0)) xs) = l ∙ rw (q, behind, first) in
-    m ∙ rw second
+-- ---- the rows of the whole body, as the functions fill them
+
+module _ (c : Contents) (f : BodyRow) where
+  pub friction-made : (j : ℕ) → f ≡ frictionRow c → j < finishes → tab (c .settings .count) (λ k. bodyCell f (machAt (c .settings) k) (reynoldsAt (c .settings) k)) ≡ rowOf c (friction-row j)
+  unfolding kindCell
+  friction-made j e h =
+      rw e (tab-same (c .settings .count) _ _ (λ k l. friction-same c (machAt (c .settings) k) (reynoldsAt (c .settings) k) ∙ sym (ap (λ z. kindCell c z (machAt (c .settings) k) (reynoldsAt (c .settings) k)) (kind-friction finishes j h))))
+
+  pub base-made : f ≡ baseRow c → tab (c .settings .count) (λ k. bodyCell f (machAt (c .settings) k) (reynoldsAt (c .settings) k)) ≡ rowOf c (base-row finishes)
+  unfolding kindCell
+  base-made e =
+      rw e (tab-same (c .settings .count) _ _ (λ k l. base-same c (machAt (c .settings) k) (reynoldsAt (c .settings) k) ∙ sym (ap (λ z. kindCell c z (machAt (c .settings) k) (reynoldsAt (c .settings) k)) (kind-base finishes))))
+
+-- ---- totals
+
+-- a total adds only rows that stand above the totals
+total-same : (C j : ℕ) (xs ys : List Float) → j < finishes → ((r : ℕ) → r < total-row finishes 0 → rowAt C xs r ≡ rowAt C ys r) → totalThere C xs j ≡ totalThere C ys j
+total-same C j xs ys h same =
+    tab-same C _ _ (λ k l.
+    rw (sum-same most-parts (λ i. there C xs i k) (λ i. there C ys i k) (λ i u. ap (λ row. getD row k nan) (same i (omega arith))), same (friction-row j) (omega arith), same (base-row finishes) (omega arith)))
+
+-- the total rows written so far
+abbrev pub TotalsDone : ℕ → List Float → List Float → ℕ → Type 0
+TotalsDone C xs₀ xs j = RowsDone C (λ r. totalThere C xs₀ (r - total-row finishes 0)) (total-row finishes 0) finishes xs₀ xs j
+
+-- a total of the cells as they are by then is one of the cells as they were
+pub total-next : (C j : ℕ) (xs₀ xs ys : List Float) → TotalsDone C xs₀ xs j → needed C ≤ length xs₀ → j < finishes → length ys ≡ length xs
+    → ys ≡ written (total-row finishes j * C) (totalThere C xs j) xs → TotalsDone C xs₀ ys (j + 1)
+total-next C j xs₀ xs ys d fits h l e =
+    let T = total-row finishes 0 in
+    let f : ℕ → List Float = λ r. totalThere C xs₀ (r - T) in
+    let w = wrote C (all-rows finishes) f (from T j) xs₀ (λ r u. tab-long C _) fits (from-below T j (all-rows finishes) (omega arith)) in
+    let same = total-same C j xs xs₀ h (λ r u. ap (λ (zs : List Float). rowAt C zs r) (d .done) ∙ w .kept r (before-all T j r u)) in
+    let p : T + j ≡ total-row finishes j = omega arith in
+    let q : T + j - T ≡ j = omega arith in
+    rows-next d ys h l (e ∙ rw (q, p, same))

@@ -17,11 +17,11 @@ use Rattle.aero_error.specs.CheckLaws.{up-none, up-more}
 use Rattle.sheet_data.specs.declared.Part.{Part}
 use Rattle.sheet_data.specs.Layout.{most-parts, finishes, friction-row, base-row, total-row, all-rows, needed}
 use Rattle.sheet_data.specs.Contents.{Contents, partAt, foreAt}
-use Rattle.sheet_data.specs.Rows.{from, Unnamed, Below, rowAt, rowsWritten}
-use Rattle.sheet_data.specs.RowLaws.{room, put-row, rows-append, rows-more, after-named, before-named, from-below, below-append, unnamed-append, written-long, cell-set, wrote}
+use Rattle.sheet_data.specs.Rows.{from, Unnamed, Below, rowAt, written, rowsWritten}
+use Rattle.sheet_data.specs.RowLaws.{room, put-row, rows-append, RowsDone, rows-none, rows-next, after-named, before-named, from-below, below-append, unnamed-append, written-long, cell-set, wrote}
 use Rattle.drag_sheet.specs.Formulas.{preparedOf}
 use Rattle.drag_sheet.specs.Build.{preparedAt, rowTestFrom, rowFrom, rowTest, rowOf, build}
-use Rattle.drag_sheet.specs.Writing.{Filled, rows, totalled, columnPut, overwritten}
+use Rattle.drag_sheet.specs.Writing.{Filled, rows, totalled, overwritten}
 use Rattle.drag_sheet.specs.Calls.{bodyRows}
 use Rattle.drag_sheet.proofs.Verdicts.{filled-same}
 use Rattle.drag_sheet.proofs.Taken.{zeros}
@@ -31,15 +31,13 @@ use Rattle.drag_sheet.proofs.Overwritten.{Holds, holds-build, rows-hold
 -- ---- part rows
 
 pub record Laying (c : Contents) (places : ℕ) (cells₀ cells : List Float) (fore : Float) (place : ℕ) : Type 0 where
-  pub turns : place ≤ places
   pub before : fore ≡ foreAt (c .parts) place
   pub passed : upTo place (rowTest c) ≡ Passed
-  pub long : length cells ≡ length cells₀
-  pub done : cells ≡ rowsWritten (c .settings .count) (rowOf c) (from 0 place) cells₀
+  pub rows : RowsDone (c .settings .count) (rowOf c) 0 places cells₀ cells place
 
 pub none-laid : {c : Contents} {places : ℕ} (cells : List Float) → Laying c places cells cells 0·0 0
-unfolding rowsWritten foreAt
-none-laid {c} cells = record { turns = omega arith; before = refl; passed = up-none (rowTest c); long = refl; done = refl }
+unfolding foreAt
+none-laid {c} {places} cells = record { before = refl; passed = up-none (rowTest c); rows = rows-none (c .settings .count) (rowOf c) 0 places cells }
 
 module _ (c : Contents) {places : ℕ} {cells₀ cells : List Float} {fore : Float} {place : ℕ} (l : Laying c places cells₀ cells fore place) where
   -- what is made of the next part is its row
@@ -61,11 +59,9 @@ module _ (c : Contents) {places : ℕ} {cells₀ cells : List Float} {fore : Flo
       let t = sym (g .verdict) ∙ ok in
       let made : row ≡ rowOf c place = g .made t ∙ part-row c place few inside in
       rw (put-row at C row cells w) record {
-        turns = omega arith;
         before = rw (add-one place, ← q);
         passed = up-more (rowTest c) (l .passed) t;
-        long = written-long at row cells (omega arith) ∙ l .long;
-        done = let z : 0 + place ≡ place = omega arith in sym (rows-more C (rowOf c) 0 place cells₀ ∙ rw (z, ← l .done, ← made, ← e));
+        rows = rows-next (l .rows) (written at row cells) h (written-long at row cells (omega arith)) (let z : 0 + place ≡ place = omega arith in rw (z, ← made, ← e));
       }
 
 -- ---- the rows of the whole body
@@ -81,35 +77,22 @@ body-outside r h u = let k : r ≢ base-row finishes = u .0 in before-named (fri
 
 -- ---- a cell of each row
 
-pub record Putting (column count : ℕ) (values cells₀ cells : List Float) (row : ℕ) : Type 0 where
-  pub turns : row ≤ all-rows finishes
-  pub long : length cells ≡ length cells₀
-  pub done : cells ≡ rowsWritten count (λ r. set (rowAt count cells₀ r) column (getD values r nan)) (from 0 row) cells₀
+-- the cells of the rows before this one are put into a column
+abbrev pub Putting : ℕ → ℕ → List Float → List Float → List Float → ℕ → Type 0
+Putting column count values cells₀ cells row = RowsDone count (λ r. set (rowAt count cells₀ r) column (getD values r nan)) 0 (all-rows finishes) cells₀ cells row
 
-pub none-put : (column count : ℕ) (values cells : List Float) → Putting column count values cells cells 0
-unfolding rowsWritten
-none-put column count values cells = record { turns = omega arith; long = refl; done = refl }
-
-module _ {column count : ℕ} {values cells₀ cells : List Float} {row : ℕ} (p : Putting column count values cells₀ cells row) where
-  pub put-next : (at : ℕ) → at ≡ row * count → column < count → needed count ≤ length cells₀ → row < all-rows finishes
-      → Putting column count values cells₀ (set cells (at + column) (getD values row nan)) (row + 1)
-  put-next at e h fits l =
-      let f : ℕ → List Float = λ r. set (rowAt count cells₀ r) column (getD values r nan) in
-      let N = all-rows finishes in
-      let wide : (r : ℕ) → r < N → length (f r) ≡ count =
-      λ r m. let q = room r N count m in length-set (rowAt count cells₀ r) column _ ∙ length-take-le count (drop (r * count) cells₀) (simp length-drop (omega arith)) in
-      let w = wrote count N f (from 0 row) cells₀ wide fits (from-below 0 row N (omega arith)) in
-      let here : rowAt count cells row ≡ rowAt count cells₀ row = ap (λ xs. rowAt count xs row) (p .done) ∙ w .kept row (after-named 0 row row (omega arith)) in
-      let q = room row N count l in
-      let z : 0 + row ≡ row = omega arith in
-      record {
-        turns = omega arith;
-        long = length-set cells (at + column) _ ∙ p .long;
-        done = rw (e, cell-set row count column (getD values row nan) cells h (omega (arith, p .long)), here) (sym (rows-more count f 0 row cells₀ ∙ rw (z, ← p .done)));
-      }
-
-  pub put-end : all-rows finishes ≤ row → cells ≡ columnPut column count values cells₀
-  put-end h = let e : all-rows finishes ≡ row = omega (arith, p .turns) in rw e (p .done)
+pub put-next : (column count : ℕ) (values cells₀ cells : List Float) (row at : ℕ) → Putting column count values cells₀ cells row → at ≡ row * count → column < count → needed count ≤ length cells₀ → row < all-rows finishes
+    → Putting column count values cells₀ (set cells (at + column) (getD values row nan)) (row + 1)
+put-next column count values cells₀ cells row at p e h fits l =
+    let f : ℕ → List Float = λ r. set (rowAt count cells₀ r) column (getD values r nan) in
+    let N = all-rows finishes in
+    let wide : (r : ℕ) → r < N → length (f r) ≡ count =
+    λ r m. let q = room r N count m in length-set (rowAt count cells₀ r) column _ ∙ length-take-le count (drop (r * count) cells₀) (simp length-drop (omega arith)) in
+    let w = wrote count N f (from 0 row) cells₀ wide fits (from-below 0 row N (omega arith)) in
+    let here : rowAt count cells row ≡ rowAt count cells₀ row = ap (λ xs. rowAt count xs row) (p .done) ∙ w .kept row (after-named 0 row row (omega arith)) in
+    let q = room row N count l in
+    let z : 0 + row ≡ row = omega arith in
+    rows-next p _ l (length-set cells (at + column) _) (rw (e, cell-set row count column (getD values row nan) cells h (omega (arith, p .long)), here, z))
 
 -- ---- a sheet built from nothing
 

@@ -26,6 +26,7 @@ use sheet_data::Sheet;
 use sheet_data::checks::check_part;
 use sheet_data::checks::check_settings;
 use sheet_data::checks::check_sheet;
+use sheet_data::layout;
 use sheet_data::layout::COLUMNS;
 use sheet_data::layout::PARTS;
 use sheet_data::layout::ROWS;
@@ -168,12 +169,13 @@ pub fn set_column(
         design,
     };
     let mut values = [0.0; ROWS];
-    let outcome = rows::build_rows(one, &mut values);
+    let all = layout::rows();
+    let outcome = rows::build_rows(one, &mut values[..all]);
     let Check::Passed = outcome else {
         return Answer { outcome, sheet };
     };
     let count = settings.count;
-    rows::write_column(column, count, &values, cells);
+    rows::write_column(column, count, &values[..all], cells);
     let settings = edits::with_column(settings, column, mach, reynolds);
     Answer {
         outcome,

@@ -5,7 +5,7 @@ ghost use lib.ListN.{length, getD, replicate};
 ghost use lib.Ieee.{nan};
 ghost use Rattle.elementary.specs.Arithmetic.{_⊕_};
 ghost use Rattle.elementary.specs.Constants.{0·0};
-ghost use Rattle.sheet_data.specs.Layout.{most-parts, most-columns, finishes, all-rows, total-row, needed, RowPlace};
+ghost use Rattle.sheet_data.specs.Layout.{most-parts, most-columns, finishes as finishCount, friction-row, total-row, all-rows, needed, RowPlace};
 ghost use Rattle.sheet_data.specs.Contents.{contentsOf, Fits, machAt, reynoldsAt};
 ghost use Rattle.sheet_data.specs.Tables.{tab};
 ghost use Rattle.sheet_data.specs.Rows.{from, written, rowsWritten};
@@ -20,17 +20,18 @@ use crate::part;
 use aero_error::Check;
 use sheet_data::Settings;
 use sheet_data::Sheet;
-use sheet_data::layout::BASE_ROW;
 use sheet_data::layout::CELLS;
 use sheet_data::layout::COLUMNS;
-use sheet_data::layout::FRICTION_ROW;
 use sheet_data::layout::PARTS;
-use sheet_data::layout::ROWS;
-use sheet_data::layout::TOTAL_ROW;
+use sheet_data::layout::base_row;
+use sheet_data::layout::finishes;
+use sheet_data::layout::friction_row;
+use sheet_data::layout::rows;
+use sheet_data::layout::total_row;
 
 // Where a row begins.
 pub(crate) fn offset(row: usize, count: usize) -> usize
-    requires { ⌜ (row < all-rows finishes) × (count ≤ most-columns) ⌝ }
+    requires { ⌜ (row < all-rows finishCount) × (count ≤ most-columns) ⌝ }
     ensures { λ r. ⌜ RowPlace row count r ⌝ }
 {
     row * count
@@ -99,13 +100,13 @@ fn add_parts(count: usize, cells: &[f64], sum: &mut [f64])
     }
 }
 
-// The total row: the part rows, the friction row and the base row as they stand, added into `sum`, which holds +0.
-fn sum_rows(count: usize, cells: &[f64], sum: &mut [f64])
-    requires { ⌜ (count ≤ most-columns) × (needed count ≤ length (now cells)) × (now sum ≡ replicate count 0·0) ⌝ }
-    ensures { λ _. ⌜ now (sum .exit) ≡ totalThere count (now (cells .entry)) 0 ⌝ }
+// The total row of a finish: the part rows, its friction row and the base row as they stand, added into `sum`, which holds +0.
+fn sum_rows(finish: usize, count: usize, cells: &[f64], sum: &mut [f64])
+    requires { ⌜ (finish < finishCount) × (count ≤ most-columns) × (needed count ≤ length (now cells)) × (now sum ≡ replicate count 0·0) ⌝ }
+    ensures { λ _. ⌜ now (sum .exit) ≡ totalThere count (now (cells .entry)) finish ⌝ }
 {
-    let friction = offset(FRICTION_ROW, count);
-    let base = offset(BASE_ROW, count);
+    let friction = offset(friction_row() + finish, count);
+    let base = offset(base_row(), count);
     let friction_end = friction + count;
     let base_end = base + count;
     add_parts(count, cells, sum);
@@ -113,29 +114,51 @@ fn sum_rows(count: usize, cells: &[f64], sum: &mut [f64])
     add_row(sum, &cells[base..base_end]);
 }
 
-// Writes the total row.
-fn write_total(count: usize, cells: &mut [f64])
-    requires { ⌜ (count ≤ most-columns) × (needed count ≤ length (now cells)) ⌝ }
-    ensures { λ _. ⌜ now (cells .exit) ≡ written (total-row finishes 0 * count) (totalThere count (now (cells .entry)) 0) (now (cells .entry)) ⌝ }
+// Writes the total row of a finish.
+fn write_total(finish: usize, count: usize, cells: &mut [f64])
+    requires { ⌜ (finish < finishCount) × (count ≤ most-columns) × (needed count ≤ length (now cells)) ⌝ }
+    ensures { λ _. ⌜ now (cells .exit) ≡ written (total-row finishCount finish * count) (totalThere count (now (cells .entry)) finish) (now (cells .entry)) ⌝ }
 {
     let mut sum = [0.0; COLUMNS];
-    let at = offset(TOTAL_ROW, count);
-    sum_rows(count, cells, &mut sum[..count]);
+    let at = offset(total_row() + finish, count);
+    sum_rows(finish, count, cells, &mut sum[..count]);
     write_row(at, &sum[..count], cells);
 }
 
-// Writes the friction, base and total rows anew. The total adds the cells that are there.
+// Writes the total rows. They add the cells that are there.
+fn write_totals(count: usize, cells: &mut [f64])
+    requires { ⌜ (count ≤ most-columns) × (needed count ≤ length (now cells)) ⌝ }
+    ensures { λ _. ⌜ now (cells .exit) ≡ totalled count (now (cells .entry)) ⌝ }
+{
+    for finish in 0usize..finishes() {
+        write_total(finish, count, cells);
+    }
+}
+
+// Writes the friction rows.
+fn write_frictions(sheet: Sheet, cells: &mut [f64])
+    requires { ⌜ Fits sheet (length (now cells)) ⌝ }
+    ensures { λ _. ⌜ now (cells .exit) ≡ rowsWritten (sheet .settings .count) (rowOf (contentsOf sheet)) (from (friction-row 0) finishCount) (now (cells .entry)) ⌝ }
+{
+    let settings = sheet.settings;
+    let count = settings.count;
+    for finish in 0usize..finishes() {
+        let at = offset(friction_row() + finish, count);
+        write_body_row(body::friction_row(sheet), settings, at, cells);
+    }
+}
+
+// Writes the friction, base and total rows anew.
 pub(crate) fn finish(sheet: Sheet, cells: &mut [f64])
     requires { ⌜ Fits sheet (length (now cells)) ⌝ }
     ensures { λ _. ⌜ now (cells .exit) ≡ totalled (sheet .settings .count) (rowsWritten (sheet .settings .count) (rowOf (contentsOf sheet)) bodyRows (now (cells .entry))) ⌝ }
 {
     let settings = sheet.settings;
     let count = settings.count;
-    let friction = offset(FRICTION_ROW, count);
-    let base = offset(BASE_ROW, count);
-    write_body_row(body::friction_row(sheet), settings, friction, cells);
-    write_body_row(body::base_row(sheet), settings, base, cells);
-    write_total(count, cells);
+    write_frictions(sheet, cells);
+    let at = offset(base_row(), count);
+    write_body_row(body::base_row(sheet), settings, at, cells);
+    write_totals(count, cells);
 }
 
 // The rows of a design's parts; the other cells stay. It stops at the lowest place that cannot be built.
@@ -184,7 +207,7 @@ pub(crate) fn write_all(sheet: Sheet, cells: &mut [f64]) -> Check
 {
     let mut scratch = [0.0; CELLS];
     let count = sheet.settings.count;
-    let all = ROWS * count;
+    let all = rows() * count;
     let check = build_rows(sheet, &mut scratch[..all]);
     let Check::Passed = check else {
         return check;
@@ -194,11 +217,11 @@ pub(crate) fn write_all(sheet: Sheet, cells: &mut [f64]) -> Check
 }
 
 // Writes a cell for each row into a column.
-pub(crate) fn write_column(column: usize, count: usize, values: &[f64; ROWS], cells: &mut [f64])
-    requires { ⌜ (column < count) × (count ≤ most-columns) × (needed count ≤ length (now cells)) ⌝ }
+pub(crate) fn write_column(column: usize, count: usize, values: &[f64], cells: &mut [f64])
+    requires { ⌜ (column < count) × (count ≤ most-columns) × (needed count ≤ length (now cells)) × (all-rows finishCount ≤ length (now values)) ⌝ }
     ensures { λ _. ⌜ now (cells .exit) ≡ columnPut column count (now (values .entry)) (now (cells .entry)) ⌝ }
 {
-    for row in 0usize..ROWS {
+    for row in 0usize..rows() {
         let at = offset(row, count);
         cells[at + column] = values[row];
     }

@@ -14,7 +14,7 @@ most-columns = 32
 abbrev pub most-finishes : ℕ
 most-finishes = 1
 
--- how many finishes a sheet has; laws use what is shown of it below, and only proofs that meet the code's own numbers open it
+-- how many finishes a sheet has. It is shut: all else rests on `finishes-some` and `finishes-few`
 unfoldable pub finishes : ℕ
 finishes = 1
 
@@ -43,6 +43,10 @@ pub record RowPlace (row C at : ℕ) : Type 0 where
   pub place : at ≡ row * C
   pub inside : at + C ≤ needed C
   pub small : at + C ≤ most-cells
+
+pub finishes-some : 1 ≤ finishes
+unfolding finishes
+finishes-some = omega arith
 
 pub finishes-few : finishes ≤ most-finishes
 unfolding finishes

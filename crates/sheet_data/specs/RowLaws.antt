@@ -151,6 +151,23 @@ module _ {A : Type 0} where
   unfolding rowsWritten
   rows-more C f at j xs = rw (add-one j)
 
+  -- a loop that has written j of n rows, from row `at` on
+  pub record RowsDone (C : ℕ) (f : ℕ → List A) (at n : ℕ) (xs₀ xs : List A) (j : ℕ) : Type 0 where
+    pub turns : j ≤ n
+    pub long : length xs ≡ length xs₀
+    pub done : xs ≡ rowsWritten C f (from at j) xs₀
+
+  pub rows-none : (C : ℕ) (f : ℕ → List A) (at n : ℕ) (xs : List A) → RowsDone C f at n xs xs 0
+  unfolding rowsWritten
+  rows-none C f at n xs = record { turns = omega arith; long = refl; done = refl }
+
+  module _ {C : ℕ} {f : ℕ → List A} {at n : ℕ} {xs₀ xs : List A} {j : ℕ} (d : RowsDone C f at n xs₀ xs j) where
+    pub rows-next : (ys : List A) → j < n → length ys ≡ length xs → ys ≡ written ((at + j) * C) (f (at + j)) xs → RowsDone C f at n xs₀ ys (j + 1)
+    rows-next ys h l e = record { turns = omega arith; long = l ∙ d .long; done = e ∙ sym (rows-more C f at j xs₀ ∙ rw (← d .done)) }
+
+    pub rows-end : n ≤ j → xs ≡ rowsWritten C f (from at n) xs₀
+    rows-end h = let e : n ≡ j = omega (arith, d .turns) in rw e (d .done)
+
   -- a cell set is its row written anew
   pub cell-set : (r C k : ℕ) (v : A) (xs : List A) → k < C → r * C + C ≤ length xs → set xs (r * C + k) v ≡ written (r * C) (set (rowAt C xs r) k v) xs
   cell-set r C k v xs h fits =

@@ -11,7 +11,7 @@ use crate::Settings;
 use crate::Sheet;
 use crate::layout::COLUMNS;
 use crate::layout::PARTS;
-use crate::layout::ROWS;
+use crate::layout::rows;
 use aero_error::AeroError;
 use aero_error::Check;
 use aero_error::Quantity;
@@ -82,7 +82,7 @@ pub fn check_settings(settings: Settings, cells: usize) -> Check
         check_body(settings),
         then(
             check_columns(settings),
-            unless(cells < ROWS * count, Rule::TooFewCells),
+            unless(cells < rows() * count, Rule::TooFewCells),
         ),
     )
 }

@@ -14,12 +14,12 @@ ghost use Rattle.sheet_text.specs.Text.{number-text, row-text, part-text
 use aero_error::Check;
 use card_run::Run;
 use sheet_data::Sheet;
-use sheet_data::layout::BASE_ROW;
 use sheet_data::layout::CELLS;
 use sheet_data::layout::COLUMNS;
-use sheet_data::layout::FRICTION_ROW;
 use sheet_data::layout::PARTS;
-use sheet_data::layout::TOTAL_ROW;
+use sheet_data::layout::base_row;
+use sheet_data::layout::friction_row;
+use sheet_data::layout::total_row;
 
 // The hexadecimal digits of 64 bits.
 const DIGITS: usize = 64 / 4;
@@ -187,9 +187,9 @@ fn put_body(columns: usize, cells: &[f64], out: &mut [u8], at: usize) -> usize
     requires { ⌜ (columns ≤ most-columns) × (needed columns ≤ length (now cells)) × (at + body-text ≤ length (now out)) ⌝ }
     ensures { λ r. ⌜ Put at (bodyText columns (now (cells .entry))) (now (out .entry)) r (now (out .exit)) × (r ≤ at + body-text) ⌝ }
 {
-    let friction = put_row(b"friction", FRICTION_ROW, columns, cells, out, at);
-    let base = put_row(b"base", BASE_ROW, columns, cells, out, friction);
-    put_row(b"total", TOTAL_ROW, columns, cells, out, base)
+    let friction = put_row(b"friction", friction_row(), columns, cells, out, at);
+    let base = put_row(b"base", base_row(), columns, cells, out, friction);
+    put_row(b"total", total_row(), columns, cells, out, base)
 }
 
 // All the lines of a sheet.

@@ -33,6 +33,7 @@ use replay::Counts;
 use replay::is_line;
 use replay::tag_of;
 use replay::word_at;
+use sheet_data::layout::CELLS;
 use sheet_data::layout::COLUMNS;
 use sheet_data::layout::PARTS;
 
@@ -203,13 +204,13 @@ fn change(line: &[u8], words: &mut [u64; SHEET_WORDS], cells: &mut [f64]) {
 // A call, or a change by hand, whose status is 0.
 fn carried_out(
     line: &[u8],
-    lent: usize,
+    cell_count: usize,
     words: &mut [u64; SHEET_WORDS],
     cells: &mut [f64],
     bits: &mut u64,
 ) -> u32 {
-    if is_call(tag_of(line)) && lent <= cells.len() {
-        return called(line, words, &mut cells[0..lent], bits);
+    if is_call(tag_of(line)) && cell_count <= cells.len() {
+        return called(line, words, &mut cells[0..cell_count], bits);
     }
     change(line, words, cells);
     0
@@ -220,7 +221,7 @@ fn carried_out(
 // What is counted so far, how many cells are lent, and whether there may be more lines.
 struct Turn {
     counts: Counts,
-    lent: usize,
+    cell_count: usize,
     more: bool,
 }
 
@@ -256,16 +257,16 @@ fn after(turn: Turn, line: &[u8], words: &mut [u64; SHEET_WORDS], cells: &mut [f
     let tag = tag_of(line);
     let counts = turn.counts;
     let mut bits = 0u64;
-    let status = carried_out(line, turn.lent, words, cells, &mut bits);
+    let status = carried_out(line, turn.cell_count, words, cells, &mut bits);
     let agrees = is_answered(line, status, bits, number_of(words, cells));
-    let lent = if tag == b'l' {
+    let cell_count = if tag == b'l' {
         word_at(line, 0) as usize
     } else {
-        turn.lent
+        turn.cell_count
     };
     Turn {
         counts: counted(counts, tag, agrees),
-        lent,
+        cell_count,
         more: true,
     }
 }
@@ -278,7 +279,7 @@ fn replay_line(turn: Turn, words: &mut [u64; SHEET_WORDS], cells: &mut [f64]) ->
         let counts = turn.counts;
         return Turn {
             counts,
-            lent: turn.lent,
+            cell_count: turn.cell_count,
             more: false,
         };
     }
@@ -289,11 +290,11 @@ fn replay_line(turn: Turn, words: &mut [u64; SHEET_WORDS], cells: &mut [f64]) ->
 // uses them up.
 fn replay_all() -> Counts {
     let mut words = [0u64; SHEET_WORDS];
-    let mut cells = [0.0; 640];
+    let mut cells = [0.0; CELLS + COLUMNS];
     let mut turns = u64::MAX;
     let mut turn = Turn {
         counts: Counts::none(),
-        lent: 0,
+        cell_count: 0,
         more: true,
     };
     while turns > 0 && turn.more {

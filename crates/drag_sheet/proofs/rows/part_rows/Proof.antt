@@ -44,7 +44,7 @@ offset-requires c κs = let f = c .before .before .before .before .before .befor
 
 -- the row lies within the cells
 inside : (c : tie.After-offset Inv-loop μ-loop) → c .offset .result + c .before .before .before .before .before .before .before .before .args .sheet .settings .count ≤ length (c .before .before .before .loop .cells)
-inside c = omega (arith, c .offset .ensures .inside, c .before .before .before .before .before .before .before .before .pre .room, c .before .before .before .loop .inv .long)
+inside c = omega (arith, c .offset .ensures .inside, c .before .before .before .before .before .before .before .before .pre .room, c .before .before .before .loop .inv .rows .long)
 
 part-row-requires : tie.Need-part-row-requires Inv-loop μ-loop
 part-row-requires c κs =
@@ -57,7 +57,7 @@ same-length c =
     let at = c .before .before .before .before .before .before .before .before .before .loop in
     let o = c .before .before .before .before .before .before .offset .result in
     let f = c .before .before .before .before .part-row in
-    same-len-mid o (o + s .args .sheet .settings .count - o) (at .cells) (f .last .1 .1 .1 .0) (f .kept .1 .1 .1 .0) ∙ at .inv .long
+    same-len-mid o (o + s .args .sheet .settings .count - o) (at .cells) (f .last .1 .1 .1 .0) (f .kept .1 .1 .1 .0) ∙ at .inv .rows .long
 
 returns : tie.Need-returns Inv-loop μ-loop
 unfolding trial
@@ -86,9 +86,9 @@ unfolding trial
 returns-2 c =
     let s = c .before .before .before .before .before .before in
     let at = c .before .loop in
-    let e : s .args .sheet .design .count ≡ at .place = omega (arith, at .inv .turns) in
+    let e : s .args .sheet .design .count ≡ at .place = omega (arith, at .inv .rows .turns) in
     let l = long s in
-    filled-passed (sym (up-end _ (omega (arith, at .inv .turns)) (omega arith) (at .inv .passed))) (at .inv .done ∙ rw e)
+    filled-passed (sym (up-end _ (omega (arith, at .inv .rows .turns)) (omega arith) (at .inv .passed))) (at .inv .rows .done ∙ rw e)
 
 pub part-rows-spec : {M : Type 1} → statement M
 part-rows-spec =
@@ -97,4 +97,4 @@ part-rows-spec =
     Inv-loop μ-loop (λ c. none-laid _) (λ c. search needs) (λ c. search needs) offset-requires (λ c. omega (arith, c .offset .ensures .small))
     (λ c. omega (arith, c .offset .ensures .small)) (λ c. search needs) (λ c. omega (arith, inside c)) (λ c. inside c) part-row-requires
     (λ c. search needs) (λ c. search needs) same-length returns (λ c. search needs) (λ c. search needs) loop-again
-    (λ c. c .before .loop .inv .long) returns-2)
+    (λ c. c .before .loop .inv .rows .long) returns-2)
