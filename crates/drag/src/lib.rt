@@ -294,8 +294,8 @@ pub fn boattail_factor(length_m: f64, fore_diameter_m: f64, aft_diameter_m: f64)
             require(ok, Quantity::BoattailFore, fore_diameter_m),
         ),
     );
-    gated(
-        check,
-        boattail_share(length_m / (fore_diameter_m - aft_diameter_m)),
-    )
+    if let Check::Failed(refusal) = check {
+        return Coefficient::Refused(refusal);
+    }
+    Coefficient::Value(boattail_share(length_m / (fore_diameter_m - aft_diameter_m)))
 }
