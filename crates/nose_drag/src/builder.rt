@@ -83,23 +83,24 @@ impl PressureDragCurve {
     pub fn new(shape: NoseShape, fineness_ratio: f64, joint_angle_rad: f64) -> Curve
         ensures { λ r. ⌜ r ≡ newCurve shape «fineness_ratio» «joint_angle_rad» ⌝ }
     {
-        let answer = build(shape, fineness_ratio, joint_angle_rad);
-        let Curve::Built(curve) = answer else {
-            return answer;
-        };
-        if fineness_ratio > 0.0 {
-            let fit = curve.fit;
-            let transonic = curve.transonic;
-            Curve::Built(PressureDragCurve {
-                shape: CurveShape::Of(shape),
-                fineness_ratio,
-                rest: curve.rest,
-                mach_low: curve.mach_low,
-                fit,
-                transonic,
-            })
-        } else {
-            answer
+        match build(shape, fineness_ratio, joint_angle_rad) {
+            Curve::Refused(refusal) => Curve::Refused(refusal),
+            Curve::Built(curve) => {
+                if fineness_ratio > 0.0 {
+                    let fit = curve.fit;
+                    let transonic = curve.transonic;
+                    Curve::Built(PressureDragCurve {
+                        shape: CurveShape::Of(shape),
+                        fineness_ratio,
+                        rest: curve.rest,
+                        mach_low: curve.mach_low,
+                        fit,
+                        transonic,
+                    })
+                } else {
+                    Curve::Built(curve)
+                }
+            }
         }
     }
 }

@@ -10,6 +10,6 @@ new-spec =
     tie.close
     (tie.spec
     (λ c κs. search needs) (λ c. search needs) (λ c. search needs)
-    (λ c. simp (← c .before .before .build .ensures, c .enum-told .given .1))
-    (λ c. simp (← c .before .before .before .before .build .ensures, c .before .before .answer .given .1, c .if1 .taken))
-    (λ c. simp (← c .before .before .before .before .build .ensures, c .before .before .answer .given .1, c .if1 .left)))
+    (λ c. simp (← c .before .before .before .build .ensures, c .before .refusal .given .1))
+    (λ c. simp (← c .before .before .before .before .build .ensures, c .before .before .curve .given .1, c .if1 .taken))
+    (λ c. simp (← c .before .before .before .before .build .ensures, c .before .before .curve .given .1, c .if1 .left)))
