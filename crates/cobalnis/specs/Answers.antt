@@ -40,8 +40,8 @@ use Rattle.drag_sheet.specs.Calls.{Call, Called, Opened}
 use Rattle.cards.specs.declared.PartRead.{PartRead}
 use Rattle.cards.specs.declared.PartRead.the-variants.{Read, Refused as NoPart}
 use Rattle.cards.specs.declared.SettingsRead.{SettingsRead}
-use Rattle.cobalnis.specs.declared.Formula.{Formula}
-use Rattle.cobalnis.specs.declared.Formula.the-variants.{Is, Unknown}
+use Rattle.cobalnis.specs.declared.formulas.Formula.{Formula}
+use Rattle.cobalnis.specs.declared.formulas.Formula.the-variants.{Is, Unknown}
 use Rattle.cobalnis.specs.Words.{first-part, spread, partWords, settingsOf, settingsWords, sheetOf, sheetWords, shapesKnown}
 
 -- ---- the status and the bits of an answer
