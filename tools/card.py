@@ -35,6 +35,9 @@ SHAPES = ["conical", "ogive", "elliptical", "power", "parabolic", "haack"]
 WITH_PARAMETER = {"ogive", "power", "parabolic", "haack"}
 SETTINGS = ["diameter", "roughness", "fineness"]  # bits 0 to 2 of the settings card
 PART_NAMES = ["length", "aft", "angle", "wetted"]  # bits 2 to 5 of a part card
+PLACES = 16
+COLUMNS = 32
+ROWS = PLACES + 3  # a row for each place, friction, base, total
 NUMBER = re.compile(r"[+-]?([0-9]+\.?[0-9]*|\.[0-9]+)([eE][+-]?[0-9]+)?|nan|-?inf", re.ASCII)
 
 # What each refusal number means to somebody who wrote the cards; a pair: settings card, part card.
@@ -49,10 +52,10 @@ REFUSALS = {
     5: "a bit that must be 0 is set, or the shape number is above 5",
     6: ("diameter or fineness is missing",
         "ogive, power, parabolic and haack need their parameter, and other shapes may not have one"),
-    7: "more than 32 columns",
+    7: f"more than {COLUMNS} columns",
     8: "a place that is not in the design, or a column that is not there",
-    9: "there are 16 parts already, and no more fit",
-    10: "too few cells for the sheet: 19 for each column are needed",
+    9: f"there are {PLACES} parts already, and no more fit",
+    10: f"too few cells for the sheet: {ROWS} for each column are needed",
     11: ("the diameter is not within 0.001 to 100, or the roughness not within 0 to 1",
          "length or aft diameter is not within 0 to 100, or the wetted ratio not within 0 to 10000"),
 }

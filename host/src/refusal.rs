@@ -5,6 +5,7 @@ use std::error::Error;
 use std::fmt;
 
 use crate::c;
+use crate::sheet::{COLUMNS, PLACES};
 
 /// Why a call was refused. Nothing was changed by it.
 #[derive(Debug, Clone, Copy)]
@@ -61,9 +62,9 @@ impl fmt::Display for Refusal {
             4 => "the bytes end inside a card, or there are none",
             5 => "a reserved bit stands, or a shape isn't one of the six",
             6 => "a field of the card is missing or doesn't belong there",
-            7 => "more than 32 columns",
+            7 => return write!(f, "more than {COLUMNS} columns"),
             8 => "no such place in the design, or no such column",
-            9 => "the design has 16 parts already",
+            9 => return write!(f, "the design has {PLACES} parts already"),
             10 => "too few cells were lent",
             11 => "a size is outside what the clubs allow",
             _ => "refused",
