@@ -11,6 +11,7 @@
 //!
 //! A nose's number of points is stored as the place past its last point, which is refused.
 
+mod curve;
 mod drag;
 mod nose;
 mod steps;
@@ -90,5 +91,6 @@ fn main() {
     drag::all(&mut answers);
     answers.random = Random::new(0x5eed_0004);
     nose::all(&mut answers);
+    curve::all(&mut answers);
     answers.list.finish();
 }

@@ -1,0 +1,180 @@
+//! Lists of calls of all kinds, with good and bad arguments, on sheets opened or changed by hand.
+
+use compare::inputs::NANS;
+use compare::model::{PLACES, ROWS};
+
+use crate::{part_words, Play, BUFFER};
+
+impl Play {
+    /// Foreign values in all cells: one number everywhere, NaN, or many different ones.
+    fn foreign(&mut self) {
+        match self.args.below(4) {
+            0 => self.fill(0x7ff8_0000_0000_0000, 0),
+            1 => self.fill(0xc000_0000_0000_0000, 0x0000_1234_5678_9abc),
+            2 => {
+                let (a, b) = (self.args.random.bits(), self.args.random.bits());
+                self.fill(a, b);
+            }
+            _ => self.fill(0x3ff0_0000_0000_0000, 1),
+        }
+    }
+
+    /// A sheet of so many columns, opened and accepted.
+    pub fn opened(&mut self, count: usize) {
+        self.foreign();
+        for at in 0..count {
+            let column = self.args.a_column(u64::MAX);
+            self.column(at, column);
+        }
+        let d = self.args.house(0.001, 100.0, 1.0, u64::MAX);
+        let roughness = self.args.house(0.0, 1.0, 1e-4, u64::MAX);
+        let b = match self.args.below(4) {
+            0 => self.args.random.pick(&[1e-320, 1e300, 1.0, 0.5]),
+            _ => self.args.random.between(1.0, 30.0),
+        };
+        self.settings(d, roughness, b, count);
+        let cell_count = match self.args.below(3) {
+            0 => BUFFER,
+            1 => ROWS * count,
+            _ => ROWS * count + self.args.below(BUFFER - ROWS * count + 1),
+        };
+        self.lend(cell_count);
+        assert_eq!(self.open().refusal, 0);
+    }
+
+    /// One call of any kind on the sheet as it stands.
+    fn any_call(&mut self, bad: u64, odd: u64) {
+        let parts = self.sheet.design.count;
+        let columns = self.sheet.settings.count;
+        match self.args.below(12) {
+            0..=3 => {
+                let place = match self.args.below(6) {
+                    0 => self.args.a_place(parts),
+                    _ => self.args.below(parts + 1),
+                };
+                let part = self.args.a_part(bad, odd);
+                self.insert(place, part);
+            }
+            4..=7 => {
+                let place = self.args.a_place(parts);
+                let part = self.args.a_part(bad, odd);
+                self.replace(place, part);
+            }
+            8 => {
+                let place = self.args.a_place(parts);
+                self.remove(place);
+            }
+            9 if self.args.one_in(12) => {
+                self.open();
+            }
+            _ => {
+                let at = self.args.a_place(columns);
+                let column = self.args.a_column(bad);
+                self.set_column(at, column);
+            }
+        }
+    }
+
+    /// Each kind of call once, on a sheet that was changed by hand.
+    fn each_kind(&mut self) {
+        let count = self.sheet.design.count;
+        let part = self.args.a_part(8, 8);
+        self.insert(count.min(2), part);
+        let part = self.args.a_part(8, 8);
+        let place = self.args.a_place(count.min(PLACES));
+        self.replace(place, part);
+        let place = self.args.a_place(count.min(PLACES));
+        self.remove(place);
+        let column = self.args.a_column(8);
+        self.set_column(0, column);
+    }
+
+    /// A sheet given that no call would hand back: settings, counts and held parts out of range.
+    fn broken_sheet(&mut self) {
+        let whole = self.sheet;
+        let cell_count = self.cell_count;
+        let count = whole.settings.count;
+        for _ in 0..3 {
+            for _ in 0..1 + self.args.below(3) {
+                match self.args.below(6) {
+                    0 => {
+                        let d = self.args.house(0.001, 100.0, 1.0, 2);
+                        let roughness = self.args.house(0.0, 1.0, 0.01, 2);
+                        let b = self
+                            .args
+                            .random
+                            .pick(&[0.0, -1.0, NANS[5], f64::INFINITY, 4.0]);
+                        let c = [count, count, 33, usize::MAX][self.args.below(4)];
+                        self.settings(d, roughness, b, c);
+                    }
+                    1 if count > 0 => {
+                        let at = self.args.below(count);
+                        let column = self.args.a_column(2);
+                        self.column(at, column);
+                    }
+                    2 if count > 0 => {
+                        let short = self.args.below(ROWS * count);
+                        self.lend(short);
+                    }
+                    3 => {
+                        let many = [17, 18, usize::MAX, 16][self.args.below(4)];
+                        // What stands past the count is nobody's: a part is put there first.
+                        for place in whole.design.count..PLACES {
+                            let part = self.args.a_part(40, 40);
+                            self.hold(place, part);
+                        }
+                        self.parts(many);
+                    }
+                    _ => {
+                        let held = whole.design.count.max(1);
+                        let place = self.args.below(held);
+                        let part = self.args.a_part(2, 4);
+                        self.hold(place, part);
+                    }
+                }
+            }
+            self.each_kind();
+        }
+        // Back to the whole sheet, so that the list goes on.
+        let s = whole.settings;
+        self.settings(s.reference_diameter, s.roughness, s.body_fineness, s.count);
+        for at in 0..s.count {
+            let (is, was) = (self.sheet.settings.columns[at], s.columns[at]);
+            let same = is.mach.to_bits() == was.mach.to_bits();
+            if !(same && is.reynolds.to_bits() == was.reynolds.to_bits()) {
+                self.column(at, was);
+            }
+        }
+        for place in 0..whole.design.count {
+            let is = part_words(&self.sheet.design.parts[place], f64::to_bits);
+            let was = part_words(&whole.design.parts[place], f64::to_bits);
+            if is != was {
+                self.hold(place, whole.design.parts[place]);
+            }
+        }
+        if self.sheet.design.count != whole.design.count {
+            self.parts(whole.design.count);
+        }
+        self.lend(cell_count);
+    }
+
+    /// Calls of all kinds after an accepted open, with cells changed in between.
+    pub fn list(&mut self, columns: usize, calls: usize, bad: u64, odd: u64) {
+        self.opened(columns);
+        for _ in 0..calls {
+            if self.args.one_in(25) && columns > 0 {
+                let at = self.args.below(ROWS * columns);
+                let list = [NANS[2], 1.0, -0.0, f64::INFINITY, -3.5, 1e308];
+                let value = self.args.random.pick(&list);
+                self.poke(at, value);
+            }
+            if self.args.one_in(40) {
+                self.broken_sheet();
+            }
+            self.any_call(bad, odd);
+            if self.cell_count < ROWS * self.sheet.settings.count {
+                self.lend(ROWS * self.sheet.settings.count);
+            }
+        }
+    }
+}

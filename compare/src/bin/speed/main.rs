@@ -1,0 +1,56 @@
+//! Measures the port against the original (fixed steps in both) and prints a markdown table.
+//!
+//!     cargo run --release --offline --bin speed
+//!
+//! Either side is an `extern "C"` function of one signature, called through a pointer that the
+//! optimiser can't see through, on the same inputs, made before. The two take turns, and the
+//! shortest turn of each counts. The figure is the ratio, port over original; the nanoseconds are
+//! this machine's. Both sides' answers are added up and must be the same, all accepted.
+
+mod cards;
+mod curves;
+mod formulas;
+mod sheets;
+mod timing;
+
+use compare::inputs::Random;
+
+use cards::cards;
+use curves::curves;
+use formulas::formulas;
+use sheets::{builds, rebuilds, removes, replaces, set_columns};
+use timing::{row, Times};
+
+/// Inputs of a kind; a turn goes through all of them, again and again.
+const INPUTS: usize = 1024;
+
+/// What to know about the original's side.
+const NOTES: &str = "
+- Formulas go through one numbered function on either side, so each pays for finding its formula.
+- `coefficient` is asked 1024 times for each curve built.
+- The original has no sheet and no cards; there the other side is a model of each
+  (model.rs, cards.rs) over the original's functions. It builds each curve once a call, but it
+  allocates a vector for each row that it tries and writes, and takes the boattail factor, the form
+  factor and the wetted sum anew at each column.
+- Whole build and remove start from a copied sheet (1320 bytes) on either side.";
+
+fn main() {
+    let mut random = Random::new(0x5eed_0006);
+    println!("| what | port/original | (port, ns) | (original, ns) |");
+    println!("|---|---|---|---|");
+    formulas(&mut random);
+    curves(&mut random);
+    let [mixed, widening] = builds(&mut random);
+    let replace = replaces(&mut random, false, mixed);
+    replaces(&mut random, true, widening);
+    let rebuild = rebuilds(&mut random);
+    let (port, original) = (replace.port, rebuild.port);
+    row(
+        "port's replace / port's open and insert all 16 parts",
+        Times { port, original },
+    );
+    set_columns(&mut random);
+    removes(&mut random);
+    cards(&mut random);
+    println!("{NOTES}");
+}

@@ -1,0 +1,204 @@
+//! The wrapper's sheet, cards and `print`, accepted and refused, with the values of
+//! docs/REFERENCE.md, Example.
+
+mod common;
+
+use cobalnis::{print, Column, Part, Quantity, Settings, Shape, Sheet, COLUMNS, PLACES, ROWS};
+
+use common::{domain, refusal, stream, INFINITY, NAN};
+
+/// The settings of docs/REFERENCE.md, Example: D and B of 1, one column at rest.
+fn settings() -> Settings {
+    Settings {
+        reference_diameter: 1.0,
+        roughness: 0.0,
+        body_fineness: 1.0,
+        columns: vec![Column {
+            mach: 0.0,
+            reynolds: 0.0,
+        }],
+    }
+}
+
+/// The part of docs/REFERENCE.md, Example: a flat face of diameter 1.
+const FACE: Part = Part {
+    shape: Shape::Conical,
+    length: 0.0,
+    aft_diameter: 1.0,
+    joint_angle: 0.0,
+    wetted_ratio: 0.0,
+};
+
+#[test]
+fn the_papers_sheet() {
+    let mut cells = [-3.0; ROWS + 1];
+    let mut sheet = Sheet::open(&settings(), &mut cells).unwrap();
+    assert_eq!((sheet.column_count(), sheet.part_count()), (1, 0));
+    assert_eq!(sheet.part_row(0), None);
+    sheet.push(&FACE).unwrap();
+    assert_eq!(sheet.part(0), Some(FACE));
+    assert_eq!(sheet.part_row(0), Some(&[0.85][..]));
+    assert_eq!(sheet.friction(), [0.0]);
+    assert_eq!(sheet.base(), [0.12]);
+    assert_eq!(sheet.total()[0].to_bits(), 0x3fef_0a3d_70a3_d70a);
+    assert_eq!(sheet.cells()[ROWS], -3.0);
+    assert_eq!(sheet.settings(), settings());
+    assert_eq!(sheet.words()[68], 1);
+}
+
+#[test]
+fn edits() {
+    let mut cells = [0.0; ROWS];
+    let mut sheet = Sheet::open(&settings(), &mut cells).unwrap();
+    let half = Part {
+        aft_diameter: 0.5,
+        ..FACE
+    };
+    sheet.insert(0, &FACE).unwrap();
+    sheet.insert(0, &half).unwrap();
+    assert_eq!(sheet.part(0), Some(half));
+    assert_eq!(sheet.part_row(1), Some(&[0.85 * 0.75][..]));
+    sheet.replace(0, &FACE).unwrap();
+    assert_eq!(sheet.part_row(1), Some(&[0.0][..]));
+    sheet.remove(0).unwrap();
+    assert_eq!((sheet.part_count(), sheet.part(0)), (1, Some(FACE)));
+    assert_eq!(sheet.part(1), None);
+    let column = Column {
+        mach: 1.0,
+        reynolds: 1e6,
+    };
+    sheet.set_column(0, column).unwrap();
+    assert_eq!(sheet.settings().columns, [column]);
+    assert_eq!(sheet.base(), [0.25]);
+}
+
+/// A refused call leaves everything as it was.
+#[test]
+fn edits_refused() {
+    let mut cells = [0.0; ROWS];
+    let mut sheet = Sheet::open(&settings(), &mut cells).unwrap();
+    for place in 0..PLACES {
+        sheet.insert(place, &FACE).unwrap();
+    }
+    let words = *sheet.words();
+    let before = sheet.cells().to_vec();
+    assert_eq!(sheet.insert(16, &FACE), Err(refusal(9)));
+    assert_eq!(sheet.insert(17, &FACE), Err(refusal(8)));
+    assert_eq!(sheet.replace(16, &FACE), Err(refusal(8)));
+    assert_eq!(sheet.remove(usize::MAX), Err(refusal(8)));
+    let long = Part {
+        length: 101.0,
+        ..FACE
+    };
+    assert_eq!(sheet.replace(0, &long), Err(refusal(11)));
+    let angle = Part {
+        joint_angle: NAN,
+        ..FACE
+    };
+    let refused = domain(Quantity::JointAngle, NAN);
+    assert_eq!(sheet.replace(0, &angle), Err(refused));
+    let ogive = Part {
+        shape: Shape::Ogive { radius_ratio: 0.9 },
+        length: 1.0,
+        ..FACE
+    };
+    assert_eq!(sheet.replace(0, &ogive), Err(refusal(2)));
+    let column = |mach| Column {
+        mach,
+        reynolds: 0.0,
+    };
+    assert_eq!(sheet.set_column(1, column(0.0)), Err(refusal(8)));
+    let refused = domain(Quantity::Mach, INFINITY);
+    assert_eq!(sheet.set_column(0, column(INFINITY)), Err(refused));
+    assert_eq!((sheet.words(), sheet.cells()), (&words, &before[..]));
+}
+
+/// A body so short that its form factor overflows, with nothing wetted: the friction is a NaN.
+#[test]
+fn nan_cells_have_the_papers_bits() {
+    let settings = Settings {
+        reference_diameter: 1.0,
+        roughness: 0.0,
+        body_fineness: 1e-320,
+        columns: vec![Column {
+            mach: 0.0,
+            reynolds: 0.0,
+        }],
+    };
+    let mut cells = [-f64::NAN; ROWS + 1];
+    let past = cells[ROWS].to_bits();
+    let sheet = Sheet::open(&settings, &mut cells).expect("a fineness above 0 is taken");
+    assert_eq!(sheet.friction()[0].to_bits(), 0x7ff8_0000_0000_0000);
+    assert_eq!(sheet.total()[0].to_bits(), 0x7ff8_0000_0000_0000);
+    assert_eq!(sheet.base()[0].to_bits(), 0);
+    assert_eq!(sheet.cells()[ROWS].to_bits(), past);
+}
+
+#[test]
+fn opens_refused() {
+    let number = |settings: &Settings, cell_count: usize| {
+        Sheet::open(settings, &mut vec![0.0; cell_count])
+            .map(|_| ())
+            .map_err(|refusal| refusal.number)
+    };
+    assert_eq!(number(&settings(), ROWS), Ok(()));
+    assert_eq!(number(&settings(), ROWS - 1), Err(10));
+    let mut wide = settings();
+    wide.columns = vec![wide.columns[0]; COLUMNS];
+    assert_eq!(number(&wide, ROWS * COLUMNS), Ok(()));
+    wide.columns.push(wide.columns[0]);
+    assert_eq!(number(&wide, ROWS * (COLUMNS + 1)), Err(7));
+    let mut bad = settings();
+    bad.reference_diameter = NAN;
+    assert_eq!(number(&bad, ROWS), Err(11));
+    let mut bad = settings();
+    bad.body_fineness = 0.0;
+    assert_eq!(number(&bad, ROWS), Err(1));
+    let mut none = settings();
+    none.columns.clear();
+    assert_eq!(number(&none, 0), Ok(()));
+}
+
+#[test]
+fn cards() {
+    let bytes = stream();
+    let (read, next) = Settings::read(&bytes, 0).unwrap();
+    assert_eq!((read, next), (settings(), 34));
+    assert_eq!(Part::read(&bytes, next), Ok((FACE, 43)));
+    assert_eq!(Part::read(&bytes, 43), Err(refusal(4)));
+    assert_eq!(Part::read(&bytes, usize::MAX), Err(refusal(4)));
+    assert_eq!(Part::read(&[0x40], 0), Err(refusal(5)));
+    assert_eq!(Part::read(&[0x01, 0x06], 0), Err(refusal(5)));
+    assert_eq!(Part::read(&[0x01, 0x01], 0), Err(refusal(6)));
+    assert_eq!(Settings::read(&[], 0), Err(refusal(4)));
+    assert_eq!(Settings::read(&[0x01], 0), Err(refusal(6)));
+    let mut many = bytes.clone();
+    many[17] = 33;
+    assert_eq!(Settings::read(&many, 0), Err(refusal(7)));
+}
+
+#[test]
+fn printed() {
+    assert_eq!(
+        print(&stream()),
+        "mach 0000000000000000\npart 0 3feb333333333333\nfriction 0000000000000000\n\
+         base 3fbeb851eb851eb8\ntotal 3fef0a3d70a3d70a\n"
+    );
+    assert_eq!(print(&[]), "refused 4 card 0\n");
+    assert_eq!(print(&[0x0d]), "refused 4 card 0\n");
+}
+
+/// The longest text there is: 16 parts and 32 columns.
+#[test]
+fn longest_print() {
+    let one = 1.0f64.to_le_bytes();
+    let mut bytes = vec![0x0d];
+    bytes.extend([one, one].concat());
+    bytes.push(32);
+    bytes.extend([0; 16 * 32]);
+    bytes.extend([0; 16]);
+    let text = print(&bytes);
+    assert_eq!((text.lines().count(), text.len()), (20, 11023));
+    bytes.push(0);
+    assert_eq!(print(&bytes), "refused 9 card 17\n");
+}
