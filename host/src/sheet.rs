@@ -17,8 +17,7 @@ const TOTAL: usize = BASE + 1;
 
 /// What [`print`] needs at most: a line for Mach, each place, friction, base and total, of a name,
 /// a space and 16 digits a column, and a line feed.
-pub const LONGEST_TEXT: usize =
-    4 + 8 + 4 + 5 + 7 * PLACES + (1 + ROWS) * (COLUMNS * 17 + 1);
+pub const LONGEST_TEXT: usize = 4 + 8 + 4 + 5 + 7 * PLACES + (1 + ROWS) * (COLUMNS * 17 + 1);
 
 /// One column: what the drag is asked at.
 #[derive(Debug, Clone, Copy, PartialEq)]

@@ -194,5 +194,8 @@ fn words_that_name_nothing() {
     let mut sheet = [0; words::SHEET_WORDS];
     sheet[words::SHEET_WORDS - words::PART_WORDS] = 6;
     assert_eq!(words::remove(&mut sheet, 0, &mut []), (5, 0));
-    assert_eq!(words::print(&stream(), &mut [0; words::LONGEST_TEXT - 1]), 0);
+    assert_eq!(
+        words::print(&stream(), &mut [0; words::LONGEST_TEXT - 1]),
+        0
+    );
 }

@@ -143,7 +143,9 @@ impl Play {
                 self.sheet == given && same_bits(&self.cells, &before)
             };
         self.rows[call.row()].note(model.0, agree, || {
-            format!("{call:x?}, {cell_count} cells, port {port:x?}, model {model:x?}, on {given:x?}")
+            format!(
+                "{call:x?}, {cell_count} cells, port {port:x?}, model {model:x?}, on {given:x?}"
+            )
         });
         if !agree {
             // Go on from what the model has, so that one slip isn't told twice.

@@ -89,12 +89,22 @@ impl Play {
     }
 
     pub fn replace(&mut self, place: usize, part: Part) -> Answer {
-        let back = replace(&self.sheet, place, &part, &mut self.cells[..self.cell_count]);
+        let back = replace(
+            &self.sheet,
+            place,
+            &part,
+            &mut self.cells[..self.cell_count],
+        );
         self.handed('r', &put(place, &part), back)
     }
 
     pub fn insert(&mut self, place: usize, part: Part) -> Answer {
-        let back = insert(&self.sheet, place, &part, &mut self.cells[..self.cell_count]);
+        let back = insert(
+            &self.sheet,
+            place,
+            &part,
+            &mut self.cells[..self.cell_count],
+        );
         self.handed('i', &put(place, &part), back)
     }
 
