@@ -187,9 +187,12 @@ fn put_body(columns: usize, cells: &[f64], out: &mut [u8], at: usize) -> usize
     requires { ⌜ (columns ≤ most-columns) × (needed columns ≤ length (now cells)) × (at + body-text ≤ length (now out)) ⌝ }
     ensures { λ r. ⌜ Put at (bodyText columns (now (cells .entry))) (now (out .entry)) r (now (out .exit)) × (r ≤ at + body-text) ⌝ }
 {
-    let friction = put_row(b"friction", friction_row(), columns, cells, out, at);
-    let base = put_row(b"base", base_row(), columns, cells, out, friction);
-    put_row(b"total", total_row(), columns, cells, out, base)
+    let friction = friction_row();
+    let base = base_row();
+    let total = total_row();
+    let next = put_row(b"friction", friction, columns, cells, out, at);
+    let last = put_row(b"base", base, columns, cells, out, next);
+    put_row(b"total", total, columns, cells, out, last)
 }
 
 // All the lines of a sheet.
