@@ -9,10 +9,6 @@ unfolding eightBytes
 number-at-spec =
     tie.close
     (tie.spec
-    (λ c κs. search needs)
-    (λ c. search needs)
-    (λ c κs. search needs)
-    (λ c. search needs)
-    (λ c. search needs)
+    (λ c κs. search needs) (λ c. search needs) (λ c κs. search needs) (λ c. search needs) (λ c. search needs)
     (λ c κs. search needs)
     (λ c. simp (← c .before .four-bytes2 .ensures .0, ← c .before .before .four-bytes .ensures .0) (c .from-bits .ensures)))

@@ -9,9 +9,6 @@ unfolding partAt
 read-part-spec =
     tie.close
     (tie.spec
-    (λ c κs. search needs)
-    (λ c. search needs)
-    (λ c. search needs)
-    (λ c κs. search needs)
+    (λ c κs. search needs) (λ c. search needs) (λ c. search needs) (λ c κs. search needs)
     (λ c. simp (← c .before .before .before .read-byte .ensures, c .before .e .given .1))
     (λ c. simp (← c .before .before .before .before .read-byte .ensures, c .before .before .value .given .1) (c .read-part-fields .ensures)))

@@ -11,9 +11,6 @@ read-part-fields-spec =
     tie.close
     (tie.spec
     (λ c. simp (lt-ltb _ _ (c .if1 .taken)))
-    (λ c κs. search needs)
-    (λ c. search needs)
-    (λ c. search needs)
-    (λ c κs. search needs)
+    (λ c κs. search needs) (λ c. search needs) (λ c. search needs) (λ c κs. search needs)
     (λ c. simp (le-ltb _ _ (c .before .before .before .before .if1 .left), ← c .before .before .before .read-shape .ensures, c .before .e .given .1))
     (λ c. simp (le-ltb _ _ (c .before .before .before .before .before .if1 .left), ← c .before .before .before .before .read-shape .ensures, c .before .before .shape .given .1) (c .read-rest .ensures)))

@@ -9,10 +9,6 @@ unfolding settingsAt
 read-settings-spec =
     tie.close
     (tie.spec
-    (λ c κs. search needs)
-    (λ c. search needs)
-    (λ c κs. search needs)
-    (λ c. search needs)
-    (λ c κs. search needs)
+    (λ c κs. search needs) (λ c. search needs) (λ c κs. search needs) (λ c. search needs) (λ c κs. search needs)
     (λ c. simp (← c .before .before .before .before .read-byte .ensures, c .before .before .e .given .1) (c .no-settings .ensures))
     (λ c. simp (← c .before .before .before .before .read-byte .ensures, c .before .before .value .given .1) (c .read-settings-fields .ensures)))

@@ -24,12 +24,9 @@ pub friction-on-spec : {M : Type 1} → statement M
 friction-on-spec =
     tie.close
     (tie.spec
-    (λ c κs. search needs)
-    (λ c. search needs)
+    (λ c κs. search needs) (λ c. search needs)
     returns
-    (λ c. search needs)
-    (λ c. search needs)
-    (λ c. search needs)
+    (λ c. search needs) (λ c. search needs) (λ c. search needs)
     returns-2
     (λ c κs. search needs)
     returns-3

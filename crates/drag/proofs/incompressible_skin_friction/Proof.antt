@@ -30,13 +30,9 @@ pub incompressible-skin-friction-spec : {M : Type 1} → statement M
 incompressible-skin-friction-spec =
     tie.close
     (tie.spec
-    (λ c κs. search needs)
-    (λ c. search needs)
+    (λ c κs. search needs) (λ c. search needs)
     returns
-    (λ c. search needs)
-    (λ c κs. search needs)
-    (λ c. search needs)
-    (λ c. search needs)
+    (λ c. search needs) (λ c κs. search needs) (λ c. search needs) (λ c. search needs)
     returns-2
     (λ c κs. search needs)
     returns-3

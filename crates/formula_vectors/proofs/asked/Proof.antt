@@ -10,18 +10,9 @@ unfolding asked
 asked-spec =
     tie.close
     (tie.spec
-    (λ c κs. search needs)
-    (λ c κs. search needs)
-    (λ c κs. search needs)
-    (λ c κs. search needs)
-    (λ c κs. search needs)
-    (λ c κs. search needs)
-    (λ c κs. search needs)
-    (λ c κs. search needs)
-    (λ c κs. search needs)
-    (λ c κs. search needs)
-    (λ c κs. search needs)
-    (λ c κs. search needs)
+    (λ c κs. search needs) (λ c κs. search needs) (λ c κs. search needs) (λ c κs. search needs) (λ c κs. search needs)
+    (λ c κs. search needs) (λ c κs. search needs) (λ c κs. search needs) (λ c κs. search needs) (λ c κs. search needs)
+    (λ c κs. search needs) (λ c κs. search needs)
     (λ c. simp (c .is-answer .ensures, c .before .formula .ensures, c .before .before .match .keys1))
     (λ c. simp (c .is-answer2 .ensures, c .before .dimension .ensures, c .before .before .match .keys2))
     (λ c. simp (c .is-answer3 .ensures, c .before .cone .ensures, c .before .before .match .keys3))

@@ -9,8 +9,5 @@ unfolding coneAt
 cone-spec =
     tie.close
     (tie.spec
-    (λ c κs. search needs)
-    (λ c κs. search needs)
-    (λ c κs. search needs)
-    (λ c. search needs)
+    (λ c κs. search needs) (λ c κs. search needs) (λ c κs. search needs) (λ c. search needs)
     (λ c. simp (c .cobalnis-takes-cone-formula .ensures, c .before .float-at .ensures, c .before .before .word-at .ensures)))

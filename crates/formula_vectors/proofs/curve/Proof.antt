@@ -48,19 +48,9 @@ unfolding curveAt
 curve-spec =
     tie.close
     (tie.spec
-    (λ c κs. search needs)
-    (λ c κs. search needs)
-    (λ c κs. search needs)
-    (λ c κs. search needs)
-    (λ c κs. search needs)
-    (λ c. search needs)
-    (λ c. search needs)
-    (λ c κs. search needs)
-    (λ c. search needs)
-    (λ c. search needs)
-    (λ c. search needs)
-    (λ c. search needs)
-    (λ c. search needs)
+    (λ c κs. search needs) (λ c κs. search needs) (λ c κs. search needs) (λ c κs. search needs) (λ c κs. search needs)
+    (λ c. search needs) (λ c. search needs) (λ c κs. search needs) (λ c. search needs) (λ c. search needs)
+    (λ c. search needs) (λ c. search needs) (λ c. search needs)
     (λ c.
     let d = c .before .before .before .before .before in
     let h = curve-words (d .before .before .before .before .word-at .result) (d .before .before .before .float-at .result) (d .before .before .float-at2 .result) (d .before .float-at3 .result) (d .float-at4 .result) _ _ _ (c .before .cobalnis-curve .ensures) in

@@ -9,10 +9,6 @@ unfolding dimensionAt
 dimension-spec =
     tie.close
     (tie.spec
-    (λ c κs. search needs)
-    (λ c κs. search needs)
-    (λ c κs. search needs)
-    (λ c κs. search needs)
-    (λ c κs. search needs)
+    (λ c κs. search needs) (λ c κs. search needs) (λ c κs. search needs) (λ c κs. search needs) (λ c κs. search needs)
     (λ c. search needs)
     (λ c. simp (c .cobalnis-check-dimension .ensures .0, c .cobalnis-check-dimension .ensures .1, c .before .before .word-at2 .ensures, c .before .before .before .float-at .ensures, c .before .before .before .before .named .ensures, c .before .before .before .before .before .word-at .ensures)))

@@ -9,13 +9,6 @@ unfolding formulaAt
 formula-spec =
     tie.close
     (tie.spec
-    (λ c κs. search needs)
-    (λ c κs. search needs)
-    (λ c κs. search needs)
-    (λ c κs. search needs)
-    (λ c κs. search needs)
-    (λ c κs. search needs)
-    (λ c κs. search needs)
-    (λ c κs. search needs)
-    (λ c. search needs)
+    (λ c κs. search needs) (λ c κs. search needs) (λ c κs. search needs) (λ c κs. search needs) (λ c κs. search needs)
+    (λ c κs. search needs) (λ c κs. search needs) (λ c κs. search needs) (λ c. search needs)
     (λ c. simp (c .cobalnis-formula .ensures .0, c .cobalnis-formula .ensures .1, c .before .before .named .ensures, c .before .before .before .word-at .ensures, c .before .before .before .before .float-at5 .ensures, c .before .before .before .before .before .float-at4 .ensures, c .before .before .before .before .before .before .float-at3 .ensures, c .before .before .before .before .before .before .before .float-at2 .ensures, c .before .before .before .before .before .before .before .before .float-at .ensures)))

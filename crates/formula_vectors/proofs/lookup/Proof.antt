@@ -9,12 +9,6 @@ unfolding lookupAt
 lookup-spec =
     tie.close
     (tie.spec
-    (λ c κs. search needs)
-    (λ c κs. search needs)
-    (λ c κs. search needs)
-    (λ c κs. search needs)
-    (λ c. search needs)
-    (λ c. search needs)
-    (λ c. search needs)
-    (λ c. search needs)
+    (λ c κs. search needs) (λ c κs. search needs) (λ c κs. search needs) (λ c κs. search needs) (λ c. search needs)
+    (λ c. search needs) (λ c. search needs) (λ c. search needs)
     (λ c. simp (c .cobalnis-nose-lookup .ensures .0, c .cobalnis-nose-lookup .ensures .1, c .before .before .float-at .ensures, c .before .before .before .named .ensures, c .before .before .before .before .word-at .ensures)))

@@ -9,11 +9,6 @@ unfolding pointAt
 point-spec =
     tie.close
     (tie.spec
-    (λ c κs. search needs)
-    (λ c κs. search needs)
-    (λ c κs. search needs)
-    (λ c κs. search needs)
-    (λ c. search needs)
-    (λ c. search needs)
-    (λ c. search needs)
+    (λ c κs. search needs) (λ c κs. search needs) (λ c κs. search needs) (λ c κs. search needs) (λ c. search needs)
+    (λ c. search needs) (λ c. search needs)
     (λ c. simp (c .cobalnis-nose-point .ensures .0, c .cobalnis-nose-point .ensures .1, c .before .before .word-at2 .ensures, c .before .before .before .named .ensures, c .before .before .before .before .word-at .ensures)))

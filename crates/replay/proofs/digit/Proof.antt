@@ -10,9 +10,7 @@ unfolding digitOf
 digit-spec =
     tie.close
     (tie.spec
-    (λ c. search needs)
-    (λ c. search needs)
-    (λ c. search needs)
+    (λ c. search needs) (λ c. search needs) (λ c. search needs)
     (λ c. simp (lt-ltb _ _ (c .if1 .taken)))
     (λ c. simp (le-ltb _ _ (c .before .if1 .left), le-leb _ _ (c .if2 .taken)))
     (λ c. simp (le-ltb _ _ (c .before .before .if1 .left), lt-leb _ _ (c .before .if2 .left), lt-ltb _ _ (c .if3 .taken)))

@@ -13,17 +13,11 @@ unfolding fieldAt
 field-at-spec =
     tie.close
     (tie.spec
-    (λ c. search needs)
-    (λ c. search needs)
-    (λ c. search needs)
-    (λ c. search needs)
+    (λ c. search needs) (λ c. search needs) (λ c. search needs) (λ c. search needs)
     (λ c. simp (lt-ltb _ _ (c .if1 .taken)))
     (λ c. search needs)
     (λ c. simp (le-ltb _ _ (c .before .before .if1 .left), ne-eqb _ _ (c .if2 .taken)))
-    (λ c. search needs)
-    (λ c. search needs)
-    (λ c. search needs)
-    (λ c κs. search needs)
+    (λ c. search needs) (λ c. search needs) (λ c. search needs) (λ c κs. search needs)
     (λ c.
     let w = c .before .before .before .before .before .before .args .which in
     let e : 17 * w + 1 + 1 + 16 - (17 * w + 1 + 1) ≡ 16 = omega arith in
