@@ -4,7 +4,7 @@ pub mod Slots
 pub mod RowKinds
 pub mod Taken
 pub mod Overwritten
-pub mod Finish
+pub mod MadeRows
 pub mod Laying
 pub mod Answers
 pub mod OneColumn

@@ -16,19 +16,19 @@ abbrev pub bodyCell : BodyRow → Float → Float → Float
 bodyCell (Friction wall form wet) M R = valueOf (frictionOn wall R M) ⊗ form ⊗ wet
 bodyCell (Base area) M R = valueOf (baseDragCoefficient M) ⊗ area
 
-abbrev pub frictionRow : Contents → BodyRow
-frictionRow c = Friction (wallOf (c .settings .roughness)) (valueOf (bodyFrictionFormFactor (c .settings .«body_fineness»))) (wetted (c .parts))
+abbrev pub bodyFriction : Contents → BodyRow
+bodyFriction c = Friction (wallOf (c .settings .roughness)) (valueOf (bodyFrictionFormFactor (c .settings .«body_fineness»))) (wetted (c .parts))
 
-abbrev pub baseRow : Contents → BodyRow
-baseRow c =
+abbrev pub bodyBase : Contents → BodyRow
+bodyBase c =
     let last = foreAt (c .parts) (length (c .parts)) in
     let D = c .settings .«reference_diameter» in
     Base (last ⊗ last ⊘ (D ⊗ D))
 
-pub friction-same : (c : Contents) (M R : Float) → bodyCell (frictionRow c) M R ≡ frictionCell c M R
+pub friction-same : (c : Contents) (M R : Float) → bodyCell (bodyFriction c) M R ≡ frictionCell c M R
 unfolding frictionCell
 friction-same c M R = ap (λ (x : Coefficient). valueOf x ⊗ valueOf (bodyFrictionFormFactor (c .settings .«body_fineness»)) ⊗ wetted (c .parts)) (on-wall (c .settings .roughness) R M)
 
-pub base-same : (c : Contents) (M R : Float) → bodyCell (baseRow c) M R ≡ baseCell c M
+pub base-same : (c : Contents) (M R : Float) → bodyCell (bodyBase c) M R ≡ baseCell c M
 unfolding baseCell
 base-same c M R = refl

@@ -7,7 +7,7 @@ ghost use Rattle.sheet_data.specs.Layout.{most-parts};
 ghost use Rattle.sheet_data.specs.Contents.{partsOf, contentsOf, foreAt};
 ghost use Rattle.sheet_data.specs.Tables.{tab};
 ghost use Rattle.drag_sheet.specs.Formulas.{valueOf, wetted};
-ghost use Rattle.drag_sheet.specs.Body.{bodyCell, frictionRow, baseRow};
+ghost use Rattle.drag_sheet.specs.Body.{bodyCell, bodyFriction, bodyBase};
 use aero_error::Coefficient;
 use drag::Wall;
 use sheet_data::Design;
@@ -72,9 +72,10 @@ pub(crate) fn fore_diameter(design: Design, place: usize) -> f64
     part.aft_diameter
 }
 
-pub(crate) fn friction_row(sheet: Sheet) -> BodyRow
+// What the friction row is made from.
+pub(crate) fn friction(sheet: Sheet) -> BodyRow
     requires { ⌜ sheet .design .count ≤ most-parts ⌝ }
-    ensures { λ r. ⌜ r ≡ frictionRow (contentsOf sheet) ⌝ }
+    ensures { λ r. ⌜ r ≡ bodyFriction (contentsOf sheet) ⌝ }
 {
     let settings = sheet.settings;
     let design = sheet.design;
@@ -85,9 +86,10 @@ pub(crate) fn friction_row(sheet: Sheet) -> BodyRow
     }
 }
 
-pub(crate) fn base_row(sheet: Sheet) -> BodyRow
+// What the base row is made from.
+pub(crate) fn base(sheet: Sheet) -> BodyRow
     requires { ⌜ sheet .design .count ≤ most-parts ⌝ }
-    ensures { λ r. ⌜ r ≡ baseRow (contentsOf sheet) ⌝ }
+    ensures { λ r. ⌜ r ≡ bodyBase (contentsOf sheet) ⌝ }
 {
     let settings = sheet.settings;
     let design = sheet.design;

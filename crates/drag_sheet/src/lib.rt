@@ -220,7 +220,7 @@ fn write_two(sheet: Sheet, place: usize, own: &[f64], cells: &mut [f64]) -> Chec
     };
     rows::write_row(rows::offset(place, count), own, cells);
     rows::write_row(rows::offset(after, count), &next[..count], cells);
-    rows::finish(sheet, cells);
+    rows::write_body(sheet, cells);
     Check::Passed
 }
 
@@ -239,7 +239,7 @@ fn write_changed(sheet: Sheet, place: usize, cells: &mut [f64]) -> Check
         return write_two(sheet, place, &own[..count], cells);
     }
     rows::write_row(rows::offset(place, count), &own[..count], cells);
-    rows::finish(sheet, cells);
+    rows::write_body(sheet, cells);
     Check::Passed
 }
 

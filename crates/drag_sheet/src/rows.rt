@@ -144,12 +144,12 @@ fn write_frictions(sheet: Sheet, cells: &mut [f64])
     let count = settings.count;
     for finish in 0usize..finishes() {
         let at = offset(friction_row() + finish, count);
-        write_body_row(body::friction_row(sheet), settings, at, cells);
+        write_body_row(body::friction(sheet), settings, at, cells);
     }
 }
 
 // Writes the friction, base and total rows anew.
-pub(crate) fn finish(sheet: Sheet, cells: &mut [f64])
+pub(crate) fn write_body(sheet: Sheet, cells: &mut [f64])
     requires { ⌜ Fits sheet (length (now cells)) ⌝ }
     ensures { λ _. ⌜ now (cells .exit) ≡ totalled (sheet .settings .count) (rowsWritten (sheet .settings .count) (rowOf (contentsOf sheet)) bodyRows (now (cells .entry))) ⌝ }
 {
@@ -157,7 +157,7 @@ pub(crate) fn finish(sheet: Sheet, cells: &mut [f64])
     let count = settings.count;
     write_frictions(sheet, cells);
     let at = offset(base_row(), count);
-    write_body_row(body::base_row(sheet), settings, at, cells);
+    write_body_row(body::base(sheet), settings, at, cells);
     write_totals(count, cells);
 }
 
@@ -196,7 +196,7 @@ pub(crate) fn build_rows(sheet: Sheet, cells: &mut [f64]) -> Check
     let Check::Passed = check else {
         return check;
     };
-    finish(sheet, cells);
+    write_body(sheet, cells);
     Check::Passed
 }
 

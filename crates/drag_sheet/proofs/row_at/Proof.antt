@@ -6,7 +6,7 @@ use lib.Seq.{length-take-le}
 use Rattle.sheet_data.specs.Layout.{most-parts}
 use Rattle.sheet_data.specs.Contents.{partsOf, part-taken}
 use Rattle.drag_sheet.proofs.RowKinds.{fore-taken}
-use Rattle.drag_sheet.proofs.Finish.{row-made}
+use Rattle.drag_sheet.proofs.MadeRows.{row-made}
 use borrow.Author.Needs.{needs}
 use Rattle.drag_sheet.proofs.row_at.Statement.{statement}
 use Rattle.drag_sheet.proofs.row_at.Tie as tie

@@ -59,8 +59,8 @@ write-row-requires c κs =
     let f = c .before .before .before .before .before .before .before .before in
     rw (take-at (f .row-at .last .1 .1 .0) _ (s .args .sheet .settings .count) (own-long f), own-long f) (omega (arith, c .before .before .offset .ensures .inside, s .pre .0 .room))
 
-finish-requires : tie.Need-finish-requires
-finish-requires c κs = let p = c .before .before .before .before .before .before .before .before .before .before .before .before .before .before .before .pre .0 in record { columns = p .columns; parts = p .parts; room = omega (arith, p .room, c .before .before .before .write-row .kept .1 .1 .0) }
+write-body-requires : tie.Need-write-body-requires
+write-body-requires c κs = let p = c .before .before .before .before .before .before .before .before .before .before .before .before .before .before .before .pre .0 in record { columns = p .columns; parts = p .parts; room = omega (arith, p .room, c .before .before .before .write-row .kept .1 .1 .0) }
 
 returns-3 : tie.Need-returns-3
 returns-3 c =
@@ -72,7 +72,7 @@ returns-3 c =
     record {
       verdict = rw (ok, long s, le-ltb (n + 1) (s .args .sheet .design .count) h);
       cells =
-          own-steps (contentsOf (s .args .sheet)) (s .args .cells .now) n _ _ _ _ (c .before .before .before .before .before .before .before .before .before .offset .ensures .place) (take-at (f .row-at .last .1 .1 .0) _ (s .args .sheet .settings .count) (own-long f) ∙ f .row-at .ensures .made ok) (c .before .before .before .before .before .before .write-row .ensures) (c .before .before .finish .ensures)
+          own-steps (contentsOf (s .args .sheet)) (s .args .cells .now) n _ _ _ _ (c .before .before .before .before .before .before .before .before .before .offset .ensures .place) (take-at (f .row-at .last .1 .1 .0) _ (s .args .sheet .settings .count) (own-long f) ∙ f .row-at .ensures .made ok) (c .before .before .before .before .before .before .write-row .ensures) (c .before .before .write-body .ensures)
           ∙ rw (ok, long s, le-ltb (n + 1) (s .args .sheet .design .count) h);
     }
 
@@ -90,4 +90,4 @@ write-changed-spec =
     (λ c κs. let p = c .before .before .before .before .before .before .before .before .pre in (omega (arith, p .1, p .0 .parts), p .0 .columns))
     (λ c. let l = own-long (c .before .before .before .before .before .before) in simp length-append (omega arith))
     (λ c. let l = own-long (c .before .before .before .before .before .before .before) in prefix-long _ _ (simp length-append (omega arith)))
-    write-row-requires finish-requires (λ c. search needs) returns-3)
+    write-row-requires write-body-requires (λ c. search needs) returns-3)

@@ -31,8 +31,8 @@ write-row-requires-2 c κs =
     let f = c .before .before .before .before .before .before .before .before .before .before .before in
     rw (take-at (f .row-at .last .1 .1 .0) _ (s .args .sheet .settings .count) (next-long f), next-long f) (omega (arith, c .before .before .offset2 .ensures .inside, s .pre .0 .room, c .before .before .before .before .before .write-row .kept .1 .1 .0))
 
-finish-requires : tie.Need-finish-requires
-finish-requires c κs =
+write-body-requires : tie.Need-write-body-requires
+write-body-requires c κs =
     let p = c .before .before .before .before .before .before .before .before .before .before .before .before .before .before .before .before .before .before .before .pre .0 in
     record { columns = p .columns; parts = p .parts; room = omega (arith, p .room, c .before .before .before .write-row2 .kept .1 .1 .0, c .before .before .before .before .before .before .before .before .before .write-row .kept .1 .1 .0) }
 
@@ -44,7 +44,7 @@ returns-2 c =
     let ok = sym v ∙ c .before .before .before .before .before .before .before .before .before .before .before .before .before .before .before .enum-told .given .1 in
     record {
       verdict = sym ok;
-      cells = next-steps (contentsOf (s .args .sheet)) (s .args .cells .now) (s .args .place) (s .args .own .now) _ _ _ _ _ _ (c .before .before .before .before .before .before .before .before .before .before .before .before .before .before .offset .ensures .place) (c .before .before .before .before .before .before .before .before .before .offset2 .ensures .place) (take-at (f .row-at .last .1 .1 .0) (drop (s .args .sheet .settings .count) (replicate most-columns 0·0)) (s .args .sheet .settings .count) (next-long f) ∙ f .row-at .ensures .made ok) (c .before .before .before .before .before .before .before .before .before .before .before .before .write-row .ensures) (c .before .before .before .before .before .before .write-row2 .ensures) (c .before .before .finish .ensures) ∙ chosen-passed (s .args .cells .now) _ ok;
+      cells = next-steps (contentsOf (s .args .sheet)) (s .args .cells .now) (s .args .place) (s .args .own .now) _ _ _ _ _ _ (c .before .before .before .before .before .before .before .before .before .before .before .before .before .before .offset .ensures .place) (c .before .before .before .before .before .before .before .before .before .offset2 .ensures .place) (take-at (f .row-at .last .1 .1 .0) (drop (s .args .sheet .settings .count) (replicate most-columns 0·0)) (s .args .sheet .settings .count) (next-long f) ∙ f .row-at .ensures .made ok) (c .before .before .before .before .before .before .before .before .before .before .before .before .write-row .ensures) (c .before .before .before .before .before .before .write-row2 .ensures) (c .before .before .write-body .ensures) ∙ chosen-passed (s .args .cells .now) _ ok;
     }
 
 pub write-two-spec : {M : Type 1} → statement M
@@ -60,4 +60,4 @@ write-two-spec =
     (λ c κs. let p = c .before .before .before .before .before .before .before .before .before .before .before .before .pre in (omega (arith, p .1, p .0 .parts), p .0 .columns))
     (λ c. let l = next-long (c .before .before .before .before .before .before .before .before .before) in simp length-append (omega arith))
     (λ c. let l = next-long (c .before .before .before .before .before .before .before .before .before .before) in prefix-long _ _ (simp length-append (omega arith)))
-    write-row-requires-2 finish-requires (λ c. search needs) returns-2)
+    write-row-requires-2 write-body-requires (λ c. search needs) returns-2)

@@ -6,7 +6,7 @@ use Rattle.sheet_data.specs.Layout.{finishes, finishes-few, friction-row}
 use Rattle.sheet_data.specs.Contents.{contentsOf}
 use Rattle.sheet_data.specs.RowLaws.{RowsDone, rows-none, rows-next, rows-end}
 use Rattle.drag_sheet.specs.Build.{rowOf}
-use Rattle.drag_sheet.proofs.Finish.{friction-made}
+use Rattle.drag_sheet.proofs.MadeRows.{friction-made}
 use borrow.Author.Needs.{needs}
 use Rattle.drag_sheet.proofs.rows.write_frictions.Statement.{statement}
 use Rattle.drag_sheet.proofs.rows.write_frictions.Tie as tie
@@ -33,7 +33,7 @@ loop-again c =
     let h : at .finish < finishes = omega (arith, c .before .before .before .before .before .before .before .loop-test .taken, c .before .before .before .before .before .before .before .before .before .finishes .ensures .0) in
     let row : c .before .before .before .before .before .before .friction-row .result + at .finish ≡ friction-row (at .finish) = omega (arith, c .before .before .before .before .before .before .friction-row .ensures) in
     let here : friction-row 0 + at .finish ≡ friction-row (at .finish) = omega arith in
-    rows-next (at .inv) _ h (w .kept .1 .1 .1 .0) (w .ensures ∙ rw (c .before .before .before .before .before .offset .ensures .place, row, friction-made (contentsOf (s .args .sheet)) _ (at .finish) (c .before .before .before .before .friction-row2 .ensures) h, here))
+    rows-next (at .inv) _ h (w .kept .1 .1 .1 .0) (w .ensures ∙ rw (c .before .before .before .before .before .offset .ensures .place, row, friction-made (contentsOf (s .args .sheet)) _ (at .finish) (c .before .before .before .before .friction .ensures) h, here))
 
 returns : tie.Need-returns Inv-loop μ-loop
 returns c = rows-end (c .before .loop .inv) (omega (arith, c .loop-test .left, c .before .before .finishes .ensures .0))

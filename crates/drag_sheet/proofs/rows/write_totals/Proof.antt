@@ -5,7 +5,7 @@ use native.Mathlib.Omega.{arith}
 use Rattle.sheet_data.specs.Layout.{finishes}
 use Rattle.sheet_data.specs.RowLaws.{rows-none, rows-end}
 use Rattle.drag_sheet.specs.Writing.{totalled}
-use Rattle.drag_sheet.proofs.Finish.{TotalsDone, total-next}
+use Rattle.drag_sheet.proofs.MadeRows.{TotalsDone, total-next}
 use borrow.Author.Needs.{needs}
 use Rattle.drag_sheet.proofs.rows.write_totals.Statement.{statement}
 use Rattle.drag_sheet.proofs.rows.write_totals.Tie as tie

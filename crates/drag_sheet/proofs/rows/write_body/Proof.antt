@@ -1,14 +1,14 @@
--- `finish` meets its contract: the friction rows, the base row and the total rows, written in this order.
+-- `write_body` meets its contract: the friction rows, the base row and the total rows, written in this order.
 use mathlib.Core.Path.{_≡_, refl, sym, ap, _∙_}
 use native.Mathlib.Omega.{arith}
 use Rattle.sheet_data.specs.Contents.{contentsOf}
 use Rattle.sheet_data.specs.Rows.{rowsWritten}
 use Rattle.drag_sheet.specs.Writing.{totalled}
 use Rattle.drag_sheet.specs.Calls.{bodyRows}
-use Rattle.drag_sheet.proofs.Finish.{base-made}
+use Rattle.drag_sheet.proofs.MadeRows.{base-made}
 use borrow.Author.Needs.{needs}
-use Rattle.drag_sheet.proofs.rows.finish.Statement.{statement}
-use Rattle.drag_sheet.proofs.rows.finish.Tie as tie
+use Rattle.drag_sheet.proofs.rows.write_body.Statement.{statement}
+use Rattle.drag_sheet.proofs.rows.write_body.Tie as tie
 
 write-body-row-requires : tie.Need-write-body-row-requires
 write-body-row-requires c κs =
@@ -25,11 +25,11 @@ unfolding bodyRows rowsWritten
 returns c =
     let s = c .before .before .before .before .before .before .before .before .before .before .before .before .before .before .before .before .before in
     let p = c .before .before .before .before .before .before .before .before .before .offset .ensures .place in
-    let made = base-made (contentsOf (s .args .sheet)) _ (c .before .before .before .before .before .before .before .before .base-row2 .ensures) in
+    let made = base-made (contentsOf (s .args .sheet)) _ (c .before .before .before .before .before .before .before .before .base .ensures) in
     c .before .before .write-totals .ensures ∙ ap (totalled (s .args .sheet .settings .count)) (c .before .before .before .before .before .before .write-body-row .ensures ∙ rw (p, c .before .before .before .before .before .before .before .before .before .before .base-row .ensures, made, c .before .before .before .before .before .before .before .before .before .before .before .before .before .write-frictions .ensures))
 
-pub finish-spec : {M : Type 1} → statement M
-finish-spec =
+pub write-body-spec : {M : Type 1} → statement M
+write-body-spec =
     tie.close
     (tie.spec
     (λ c κs. c .before .before .before .pre) (λ c κs. search needs) (λ c κs. search needs) (λ c κs. c .before .before .before .before .before .before .before .before .pre .parts) write-body-row-requires

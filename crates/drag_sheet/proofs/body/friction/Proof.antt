@@ -1,10 +1,10 @@
--- `friction_row` meets its contract.
+-- `friction` meets its contract.
 use borrow.Author.Needs.{needs}
-use Rattle.drag_sheet.proofs.body.friction_row.Statement.{statement}
-use Rattle.drag_sheet.proofs.body.friction_row.Tie as tie
+use Rattle.drag_sheet.proofs.body.friction.Statement.{statement}
+use Rattle.drag_sheet.proofs.body.friction.Tie as tie
 
-pub friction-row-spec : {M : Type 1} → statement M
-friction-row-spec =
+pub friction-spec : {M : Type 1} → statement M
+friction-spec =
     tie.close
     (tie.spec
     (λ c κs. search needs) (λ c κs. search needs) (λ c κs. search needs) (λ c κs. search needs)
