@@ -5,7 +5,9 @@
 //! A status is 0 accepted, else the refusal's number plus 256 times its code, or `NO_SUCH`. Where
 //! the interface says that nothing is written, nothing is.
 
-use cobalnis::words::{PartWords, SheetWords, FIRST_PART, MACHS, PARTS, PART_WORDS, REYNOLDS};
+use cobalnis::words::{
+    PartWords, SheetWords, FIRST_PART, MACHS_AT, PARTS_AT, PART_WORDS, REYNOLDS_AT,
+};
 use cobalnis::Formula;
 
 use crate::answer_bits;
@@ -132,8 +134,8 @@ pub fn part_words(part: &Part) -> PartWords {
 fn settings_of(words: &SheetWords) -> Settings {
     let mut columns = [NO_COLUMN; COLUMNS];
     for (at, column) in columns.iter_mut().enumerate() {
-        column.mach = f64::from_bits(words[MACHS + at]);
-        column.reynolds = f64::from_bits(words[REYNOLDS + at]);
+        column.mach = f64::from_bits(words[MACHS_AT + at]);
+        column.reynolds = f64::from_bits(words[REYNOLDS_AT + at]);
     }
     Settings {
         reference_diameter: f64::from_bits(words[0]),
@@ -155,14 +157,14 @@ fn put_settings(settings: &Settings, words: &mut SheetWords) {
     words[2] = answer_bits(settings.body_fineness);
     words[3] = settings.count as u64;
     for (at, column) in settings.columns.iter().enumerate() {
-        words[MACHS + at] = answer_bits(column.mach);
-        words[REYNOLDS + at] = answer_bits(column.reynolds);
+        words[MACHS_AT + at] = answer_bits(column.mach);
+        words[REYNOLDS_AT + at] = answer_bits(column.reynolds);
     }
 }
 
 fn put_sheet(sheet: &Sheet, words: &mut SheetWords) {
     put_settings(&sheet.settings, words);
-    words[PARTS] = sheet.design.count as u64;
+    words[PARTS_AT] = sheet.design.count as u64;
     let places = words[FIRST_PART..].chunks_exact_mut(PART_WORDS);
     for (place, part) in places.zip(&sheet.design.parts) {
         place.copy_from_slice(&part_words(part));
@@ -181,7 +183,7 @@ fn sheet_of(words: &SheetWords) -> Result<Sheet, Answer> {
     Ok(Sheet {
         settings: settings_of(words),
         design: Design {
-            count: words[PARTS] as usize,
+            count: words[PARTS_AT] as usize,
             parts,
         },
     })

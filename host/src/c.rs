@@ -8,10 +8,10 @@
 use crate::{COLUMNS, PLACES};
 
 /// Where the words of a sheet begin: Machs, Reynolds numbers, the number of parts, the parts.
-pub const MACHS: usize = 4;
-pub const REYNOLDS: usize = MACHS + COLUMNS;
-pub const PARTS: usize = REYNOLDS + COLUMNS;
-pub const FIRST_PART: usize = PARTS + 1;
+pub const MACHS_AT: usize = 4;
+pub const REYNOLDS_AT: usize = MACHS_AT + COLUMNS;
+pub const PARTS_AT: usize = REYNOLDS_AT + COLUMNS;
+pub const FIRST_PART: usize = PARTS_AT + 1;
 
 /// Words of a part and of a sheet.
 pub const PART_WORDS: usize = 6;

@@ -32,7 +32,7 @@ pub mod words {
     pub use crate::c::{
         check_dimension, curve, formula, insert, nose_lookup, nose_point, open, print, read_part,
         read_settings, remove, replace, set_column, takes_cone_formula, PartWords, SheetWords,
-        FIRST_PART, MACHS, PARTS, PART_WORDS, REYNOLDS, SHEET_WORDS,
+        FIRST_PART, MACHS_AT, PARTS_AT, PART_WORDS, REYNOLDS_AT, SHEET_WORDS,
     };
     pub use crate::sheet::LONGEST_TEXT;
 }

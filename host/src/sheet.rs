@@ -1,7 +1,8 @@
 //! The sheet, its settings and parts, and cards.
 
 use crate::c::{
-    self, PartWords, SheetWords, FIRST_PART, MACHS, PARTS, PART_WORDS, REYNOLDS, SHEET_WORDS,
+    self, PartWords, SheetWords, FIRST_PART, MACHS_AT, PARTS_AT, PART_WORDS, REYNOLDS_AT,
+    SHEET_WORDS,
 };
 use crate::{Refusal, Shape};
 
@@ -48,8 +49,8 @@ impl Settings {
         words[2] = self.body_fineness.to_bits();
         words[3] = self.columns.len() as u64;
         for (at, column) in self.columns.iter().take(COLUMNS).enumerate() {
-            words[MACHS + at] = column.mach.to_bits();
-            words[REYNOLDS + at] = column.reynolds.to_bits();
+            words[MACHS_AT + at] = column.mach.to_bits();
+            words[REYNOLDS_AT + at] = column.reynolds.to_bits();
         }
         words
     }
@@ -58,8 +59,8 @@ impl Settings {
     fn of(words: &SheetWords) -> Self {
         let count = (words[3] as usize).min(COLUMNS);
         let column = |at: usize| Column {
-            mach: f64::from_bits(words[MACHS + at]),
-            reynolds: f64::from_bits(words[REYNOLDS + at]),
+            mach: f64::from_bits(words[MACHS_AT + at]),
+            reynolds: f64::from_bits(words[REYNOLDS_AT + at]),
         };
         Self {
             reference_diameter: f64::from_bits(words[0]),
@@ -188,7 +189,7 @@ impl<'cells> Sheet<'cells> {
     }
 
     pub fn part_count(&self) -> usize {
-        self.words[PARTS] as usize
+        self.words[PARTS_AT] as usize
     }
 
     /// The part at a place.

@@ -2,7 +2,8 @@
 //! on purpose, too few cells, foreign cells.
 
 use cobalnis::words::{
-    self, PartWords, SheetWords, FIRST_PART, MACHS, PARTS, PART_WORDS, REYNOLDS, SHEET_WORDS,
+    self, PartWords, SheetWords, FIRST_PART, MACHS_AT, PARTS_AT, PART_WORDS, REYNOLDS_AT,
+    SHEET_WORDS,
 };
 
 use super::tally::Row;
@@ -109,10 +110,10 @@ fn words_of(part: &Part) -> PartWords {
 /// What a sheet's words say: those of columns and parts past the counts are nobody's.
 fn said(words: &SheetWords) -> Vec<u64> {
     let columns = (words[3] as usize).min(COLUMNS);
-    let parts = (words[PARTS] as usize).min(PLACES);
-    let mut list = words[..MACHS + columns].to_vec();
-    list.extend(&words[REYNOLDS..REYNOLDS + columns]);
-    list.extend(&words[PARTS..FIRST_PART + PART_WORDS * parts]);
+    let parts = (words[PARTS_AT] as usize).min(PLACES);
+    let mut list = words[..MACHS_AT + columns].to_vec();
+    list.extend(&words[REYNOLDS_AT..REYNOLDS_AT + columns]);
+    list.extend(&words[PARTS_AT..FIRST_PART + PART_WORDS * parts]);
     list
 }
 
@@ -158,7 +159,7 @@ impl Play {
     }
 
     fn parts(&self) -> usize {
-        (self.sheet[PARTS] as usize).min(PLACES)
+        (self.sheet[PARTS_AT] as usize).min(PLACES)
     }
 
     /// Cells enough, or seldom too few.
@@ -217,8 +218,8 @@ impl Play {
         };
         for at in 0..columns {
             let column = self.args.a_column(bad.saturating_mul(columns as u64));
-            self.sheet[MACHS + at] = column.mach.to_bits();
-            self.sheet[REYNOLDS + at] = column.reynolds.to_bits();
+            self.sheet[MACHS_AT + at] = column.mach.to_bits();
+            self.sheet[REYNOLDS_AT + at] = column.reynolds.to_bits();
         }
         let cell_count = self.cell_count();
         self.call(Call::Open, cell_count);
@@ -267,13 +268,13 @@ impl Play {
             match self.args.below(10) {
                 0 => self.sheet[self.args.below(SHEET_WORDS)] = any,
                 1 => self.sheet[3] = [33, 32, any, 1 << 63, u64::MAX][self.args.below(5)],
-                2 => self.sheet[PARTS] = [17, 16, any, 1 << 63, u64::MAX][self.args.below(5)],
+                2 => self.sheet[PARTS_AT] = [17, 16, any, 1 << 63, u64::MAX][self.args.below(5)],
                 3 => self.sheet[self.args.below(3)] = NANS[self.args.below(8)].to_bits(),
                 4 => {
                     let column = self.args.a_column(2);
                     let at = self.args.below(columns);
-                    self.sheet[MACHS + at] = column.mach.to_bits();
-                    self.sheet[REYNOLDS + at] = column.reynolds.to_bits();
+                    self.sheet[MACHS_AT + at] = column.mach.to_bits();
+                    self.sheet[REYNOLDS_AT + at] = column.reynolds.to_bits();
                 }
                 // A shape that isn't there, in use or past the count.
                 5 => {

@@ -32,23 +32,23 @@ use Rattle.drag_sheet.proofs.Answers.{Facts, call-facts, Bounds, bounds
 use Rattle.drag_sheet.proofs.Duties.{scope-inside, body-not-part}
 
 -- accepted, with the cells that the call leaves; or refused, with the sheet and the cells that were given
-pub data Verdict (call : Call) (sheet : Sheet) (xs : List Float) (r : Answer) (ys : List Float) : Type 0 where
+pub data Ended (call : Call) (sheet : Sheet) (xs : List Float) (r : Answer) (ys : List Float) : Type 0 where
   accepted : decision call sheet (length xs) ≡ Passed → r ≡ record { outcome = Passed; sheet = sheetWith (after call sheet) sheet } → ys ≡ overwritten (scope call (after call sheet)) (after call sheet) xs
-      → Verdict call sheet xs r ys
-  refusal : (e : AeroError) → decision call sheet (length xs) ≡ Failed e → r ≡ record { outcome = Failed e; sheet = sheet } → ys ≡ xs → Verdict call sheet xs r ys
+      → Ended call sheet xs r ys
+  refusal : (e : AeroError) → decision call sheet (length xs) ≡ Failed e → r ≡ record { outcome = Failed e; sheet = sheet } → ys ≡ xs → Ended call sheet xs r ys
 
-pub verdict : (call : Call) (sheet : Sheet) (xs : List Float) (r : Answer) (ys : List Float) → Called call sheet xs r ys → Verdict call sheet xs r ys
-verdict call sheet xs r ys c = by (decision call sheet (length xs)) refl
+pub ended : (call : Call) (sheet : Sheet) (xs : List Float) (r : Answer) (ys : List Float) → Called call sheet xs r ys → Ended call sheet xs r ys
+ended call sheet xs r ys c = by (decision call sheet (length xs)) refl
   where
-    by : (d : Check) → decision call sheet (length xs) ≡ d → Verdict call sheet xs r ys
+    by : (d : Check) → decision call sheet (length xs) ≡ d → Ended call sheet xs r ys
     by Passed p = accepted p (c .answer ∙ rw p) (c .left ∙ rw p)
     by (Failed e) p = refusal e p (c .answer ∙ rw p) (c .left ∙ rw p)
 
 -- "a refused edit hands back the design and every lent cell unaltered"
 pub refused-unaltered : (call : Call) (sheet : Sheet) (xs : List Float) (r : Answer) (ys : List Float) (e : AeroError) → Called call sheet xs r ys → r .outcome ≡ Failed e → (r .sheet ≡ sheet) × (ys ≡ xs)
-refused-unaltered call sheet xs r ys e c o = by (verdict call sheet xs r ys c)
+refused-unaltered call sheet xs r ys e c o = by (ended call sheet xs r ys c)
   where
-    by : Verdict call sheet xs r ys → (r .sheet ≡ sheet) × (ys ≡ xs)
+    by : Ended call sheet xs r ys → (r .sheet ≡ sheet) × (ys ≡ xs)
     by (accepted p a l) = never o (ap (λ (x : Answer). x .outcome) a)
     by (refusal x p a l) = (ap (λ (x : Answer). x .sheet) a, l)
 
@@ -103,18 +103,18 @@ left call sheet xs a =
 module _ (sheet : Sheet) (arrays : Arrays sheet) (xs : List Float) (r : Answer) (ys : List Float) where
   -- "Cells past 19 × C are never written"
   pub past-kept : (call : Call) → Called call sheet xs r ys → drop (needed (sheet .settings .count)) ys ≡ drop (needed (sheet .settings .count)) xs
-  past-kept call c = by (verdict call sheet xs r ys c)
+  past-kept call c = by (ended call sheet xs r ys c)
     where
-      by : Verdict call sheet xs r ys → drop (needed (sheet .settings .count)) ys ≡ drop (needed (sheet .settings .count)) xs
+      by : Ended call sheet xs r ys → drop (needed (sheet .settings .count)) ys ≡ drop (needed (sheet .settings .count)) xs
       by (refusal e p a l) = rw l
       by (accepted p a l) = rw l (left call sheet xs (shown call sheet xs (arrays .slots) p) .cells .past)
 
   -- "Replacing a part changes no cells but its own row, the next part's, and the friction, base and total rows"
   pub other-rows-kept : (place : ℕ) (p : Part) → Called (replace place p) sheet xs r ys → (row : ℕ) → row < most-parts → row ≢ place → row ≢ place + 1
       → rowAt (sheet .settings .count) ys row ≡ rowAt (sheet .settings .count) xs row
-  other-rows-kept place p c row h i j = by (verdict (replace place p) sheet xs r ys c)
+  other-rows-kept place p c row h i j = by (ended (replace place p) sheet xs r ys c)
     where
-      by : Verdict (replace place p) sheet xs r ys → rowAt (sheet .settings .count) ys row ≡ rowAt (sheet .settings .count) xs row
+      by : Ended (replace place p) sheet xs r ys → rowAt (sheet .settings .count) ys row ≡ rowAt (sheet .settings .count) xs row
       by (refusal e q a l) = rw l
       by (accepted q a l) =
           let s = shown (replace place p) sheet xs (arrays .slots) q in

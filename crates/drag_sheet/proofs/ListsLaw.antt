@@ -26,7 +26,7 @@ use Rattle.drag_sheet.proofs.Verdicts.{never}
 use Rattle.drag_sheet.proofs.Overwritten.{Holds, holds-build, whole-holds, keeps}
 use Rattle.drag_sheet.proofs.Answers.{settings-facts, call-facts, Bounds, bounds, contents-with, blank-tried}
 use Rattle.drag_sheet.proofs.Duties.{narrow, call-holds}
-use Rattle.drag_sheet.proofs.CallLaws.{Verdict, accepted, refusal, verdict, Accepted, shown, left, parts-few}
+use Rattle.drag_sheet.proofs.CallLaws.{Ended, accepted, refusal, ended, Accepted, shown, left, parts-few}
 
 -- ---- one call
 
@@ -99,9 +99,9 @@ kept lent C sheet xs call k p =
 -- what is kept, where the model goes, and the answer
 step : (lent : List Float) (C : ℕ) (sheet : Sheet) (xs : List Float) (call : Call) (r : Answer) (ys : List Float) → Kept lent C sheet xs → Called call sheet xs r ys
     → Kept lent C (r .sheet) ys × (contentsOf (r .sheet) ≡ moved (length lent) call (contentsOf sheet)) × (r .outcome ≡ modelDecision (length lent) call (contentsOf sheet))
-step lent C sheet xs call r ys k c = by (verdict call sheet xs r ys c)
+step lent C sheet xs call r ys k c = by (ended call sheet xs r ys c)
   where
-    by : Verdict call sheet xs r ys
+    by : Ended call sheet xs r ys
         → Kept lent C (r .sheet) ys × (contentsOf (r .sheet) ≡ moved (length lent) call (contentsOf sheet)) × (r .outcome ≡ modelDecision (length lent) call (contentsOf sheet))
     by (accepted p a l) = rw (sym (same-decision lent C sheet xs call k), p, a, l) (kept lent C sheet xs call k p, contents-with (after call sheet) sheet, refl)
     by (refusal e p a l) = rw (sym (same-decision lent C sheet xs call k), p, a, l) (k, refl, refl)

@@ -1,6 +1,6 @@
 //! A line each: the changes by hand and the calls.
 
-use cobalnis::words::{FIRST_PART, MACHS, PARTS, PART_WORDS, REYNOLDS};
+use cobalnis::words::{FIRST_PART, MACHS_AT, PARTS_AT, PART_WORDS, REYNOLDS_AT};
 use compare::model::{insert, open, remove, replace, set_column, Column, Part, Sheet};
 use compare::refusals::Answer;
 
@@ -37,9 +37,9 @@ impl Play {
 
     pub fn column(&mut self, at: usize, column: Column) {
         self.sheet.settings.columns[at].mach = column.mach;
-        self.words(MACHS + at, &[column.mach.to_bits()]);
+        self.words(MACHS_AT + at, &[column.mach.to_bits()]);
         self.sheet.settings.columns[at].reynolds = column.reynolds;
-        self.words(REYNOLDS + at, &[column.reynolds.to_bits()]);
+        self.words(REYNOLDS_AT + at, &[column.reynolds.to_bits()]);
     }
 
     pub fn hold(&mut self, place: usize, part: Part) {
@@ -52,7 +52,7 @@ impl Play {
 
     pub fn parts(&mut self, count: usize) {
         self.sheet.design.count = count;
-        self.words(PARTS, &[count as u64]);
+        self.words(PARTS_AT, &[count as u64]);
     }
 
     pub fn lend(&mut self, cell_count: usize) {

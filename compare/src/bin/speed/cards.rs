@@ -3,7 +3,7 @@
 use std::hint::black_box;
 
 use cobalnis::raw;
-use cobalnis::words::{PartWords, SheetWords, MACHS, PART_WORDS, REYNOLDS, SHEET_WORDS};
+use cobalnis::words::{PartWords, SheetWords, MACHS_AT, PART_WORDS, REYNOLDS_AT, SHEET_WORDS};
 use compare::inputs::Random;
 use compare::mirror_c as theirs;
 
@@ -38,7 +38,7 @@ fn settings_pass(f: ReadSettings, bytes: &[u8]) -> u64 {
         // SAFETY: as above.
         let status = unsafe { f(bytes.as_ptr(), bytes.len(), at, &mut words, &mut next) };
         assert_eq!(status, 0);
-        sum = sum.wrapping_add(words[2] ^ words[MACHS + 1] ^ words[REYNOLDS + 31]);
+        sum = sum.wrapping_add(words[2] ^ words[MACHS_AT + 1] ^ words[REYNOLDS_AT + 31]);
         at = next;
     }
     sum
@@ -70,8 +70,8 @@ fn settings_cards(random: &mut Random, count: usize, columns: usize) -> Vec<u8> 
         }
         bytes.push(columns as u8);
         for column in 0..columns {
-            bytes.extend(words[MACHS + column].to_le_bytes());
-            bytes.extend(words[REYNOLDS + column].to_le_bytes());
+            bytes.extend(words[MACHS_AT + column].to_le_bytes());
+            bytes.extend(words[REYNOLDS_AT + column].to_le_bytes());
         }
     }
     bytes

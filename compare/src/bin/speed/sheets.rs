@@ -4,7 +4,7 @@ use std::hint::black_box;
 
 use cobalnis::raw;
 use cobalnis::words::{
-    PartWords, SheetWords, FIRST_PART, MACHS, PARTS, PART_WORDS, REYNOLDS, SHEET_WORDS,
+    PartWords, SheetWords, FIRST_PART, MACHS_AT, PARTS_AT, PART_WORDS, REYNOLDS_AT, SHEET_WORDS,
 };
 use compare::inputs::Random;
 use compare::mirror_c as theirs;
@@ -46,10 +46,10 @@ pub fn sheet(random: &mut Random, parts: usize, widens: bool) -> SheetWords {
     words[3] = COLUMNS as u64;
     for column in 0..COLUMNS {
         let mach = 0.1 * (column as f64 + random.unit());
-        words[MACHS + column] = mach.to_bits();
-        words[REYNOLDS + column] = (mach * random.between(5e6, 3e7)).to_bits();
+        words[MACHS_AT + column] = mach.to_bits();
+        words[REYNOLDS_AT + column] = (mach * random.between(5e6, 3e7)).to_bits();
     }
-    words[PARTS] = parts as u64;
+    words[PARTS_AT] = parts as u64;
     let mut fore = 0.0;
     for place in 0..PLACES {
         let new = part(random, fore, widens);
@@ -142,7 +142,7 @@ fn remove_pass(f: Remove, sheets: &[(SheetWords, PartWords)]) -> u64 {
     let mut sum = 0u64;
     for (at, (sheet, _)) in sheets.iter().enumerate() {
         let (mut words, mut bits) = (*sheet, 0);
-        words[PARTS] = PLACES as u64;
+        words[PARTS_AT] = PLACES as u64;
         // SAFETY: all are our own and apart.
         let status = unsafe {
             f(
