@@ -1,29 +1,25 @@
 -- Any call on any sheet and cells: accepted, with what it leaves, or refused, with what was given. Nothing past the rows is written, and replacing a part writes
 -- no row but its own, the next part's, friction, base and total.
 use mathlib.Core.Path.{_≡_, refl, sym, ap, _∙_, subst}
-use mathlib.Core.Logic.{dite, _≢_}
-use mathlib.Core.List.{List, [], _∷_, _++_}
-use Prim.Native.Nat.{ℕ, _+_, _*_, _≤_, _<_}
-use native.Mathlib.Decide.{decLt}
+use mathlib.Core.Logic.{_≢_}
+use mathlib.Core.List.{List}
+use Prim.Native.Nat.{ℕ, _+_, _≤_, _<_}
 use native.Mathlib.Omega.{arith}
-use lib.ListN.{length, take, drop, length-set, length-append, length-drop}
+use lib.ListN.{length, drop, length-set}
 use lib.Seq.{length-take-le}
-use lib.Dec.{ltb}
 use lib.Ieee.{Float}
-use borrow.Author.Tests.{lt-ltb, le-ltb}
 use Rattle.aero_error.specs.declared.AeroError.{AeroError}
 use Rattle.aero_error.specs.declared.Check.{Check}
 use Rattle.aero_error.specs.declared.Check.the-variants.{Passed, Failed}
 use Rattle.aero_error.specs.CheckLaws.{both-passed}
 use Rattle.sheet_data.specs.declared.Part.{Part}
 use Rattle.sheet_data.specs.declared.Sheet.{Sheet}
-use Rattle.sheet_data.specs.Layout.{most-parts, finishes, total-row, needed}
+use Rattle.sheet_data.specs.Layout.{most-parts, needed}
 use Rattle.sheet_data.specs.Contents.{Contents, contentsOf, partsOf}
-use Rattle.sheet_data.specs.Rows.{Unnamed, rowAt}
-use Rattle.sheet_data.specs.RowLaws.{before-all}
+use Rattle.sheet_data.specs.Rows.{rowAt}
 use Rattle.drag_sheet.specs.declared.Answer.{Answer}
 use Rattle.drag_sheet.specs.Writing.{overwritten}
-use Rattle.drag_sheet.specs.Calls.{Call, replace, insert, remove, setColumn, insertAt, removeAt, applied, bodyRows, replacedRows, scope, tries, after, callTest, decision, sheetWith, Called}
+use Rattle.drag_sheet.specs.Calls.{Call, replace, insert, remove, setColumn, applied, scope, tries, after, callTest, decision, sheetWith, Called}
 use Rattle.drag_sheet.specs.Lists.{Arrays}
 use Rattle.drag_sheet.proofs.Verdicts.{never}
 use Rattle.drag_sheet.proofs.Slots.{inserted-long, removed-long}

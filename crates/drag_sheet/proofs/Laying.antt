@@ -2,7 +2,7 @@
 use mathlib.Core.Path.{_≡_, refl, sym, ap, _∙_}
 use mathlib.Core.Logic.{dite, _≢_}
 use mathlib.Core.List.{List, _++_}
-use Prim.Native.Nat.{ℕ, suc, _+_, _-_, _*_, _≤_, _<_}
+use Prim.Native.Nat.{ℕ, _+_, _-_, _*_, _≤_, _<_}
 use native.Mathlib.Numerals.{add-one}
 use native.Mathlib.Decide.{decLt}
 use native.Mathlib.Omega.{arith}
@@ -25,7 +25,7 @@ use Rattle.drag_sheet.specs.Writing.{Filled, rows, totalled, overwritten
 use Rattle.drag_sheet.specs.Calls.{bodyRows}
 use Rattle.drag_sheet.proofs.Verdicts.{filled-same}
 use Rattle.drag_sheet.proofs.Taken.{zeros}
-use Rattle.drag_sheet.proofs.RowKinds.{row-wide, part-row, no-part}
+use Rattle.drag_sheet.proofs.RowKinds.{part-row, no-part}
 use Rattle.drag_sheet.proofs.Overwritten.{Holds, holds-build, rows-hold, keeps}
 
 -- ---- part rows

@@ -1,10 +1,10 @@
 -- The rows, the settings and the design after every list of calls are the model's, and so is every answer. It takes of the program nothing but its contracts, and
 -- that a sheet's arrays have their lengths.
 use mathlib.Core.Path.{_≡_, refl, sym, ap, _∙_, subst}
-use mathlib.Core.List.{List, [], _++_}
-use Prim.Native.Nat.{ℕ, _+_, _*_, _≤_}
+use mathlib.Core.List.{List, _++_}
+use Prim.Native.Nat.{ℕ, _+_, _≤_}
 use native.Mathlib.Omega.{arith}
-use lib.ListN.{length, take, drop, length-set, length-append, length-drop}
+use lib.ListN.{length, drop, length-set, length-append, length-drop}
 use lib.Seq.{length-take-le}
 use lib.Ieee.{Float}
 use Rattle.aero_error.specs.declared.Check.{Check}
@@ -14,19 +14,19 @@ use Rattle.aero_error.specs.CheckLaws.{then-assoc}
 use Rattle.sheet_data.specs.declared.Settings.{Settings}
 use Rattle.sheet_data.specs.declared.Sheet.{Sheet}
 use Rattle.sheet_data.specs.Layout.{most-parts, most-columns, needed}
-use Rattle.sheet_data.specs.Contents.{Contents, contentsOf, partsOf, blank}
+use Rattle.sheet_data.specs.Contents.{contentsOf, partsOf, blank}
 use Rattle.sheet_data.specs.Tests.{settingsTest, sheetTest}
 use Rattle.drag_sheet.specs.declared.Answer.{Answer}
-use Rattle.drag_sheet.specs.Build.{trial, build}
-use Rattle.drag_sheet.specs.Writing.{chosen, whole, overwritten}
-use Rattle.drag_sheet.specs.Calls.{Call, replace, insert, remove, setColumn, applied, argumentsTest, tries, scope, after, callTest, decision, sheetWith, answered, Called, Opened}
+use Rattle.drag_sheet.specs.Build.{trial}
+use Rattle.drag_sheet.specs.Writing.{whole, overwritten}
+use Rattle.drag_sheet.specs.Calls.{Call, replace, insert, remove, setColumn, argumentsTest, scope, after, callTest, decision, sheetWith, answered, Called, Opened}
 use Rattle.drag_sheet.specs.Model.{openedModel, modelDecision, moved, modelAfter, modelAnswers}
 use Rattle.drag_sheet.specs.Lists.{Sequence, stop, go, Arrays, Matches, Agrees}
 use Rattle.drag_sheet.proofs.Verdicts.{never}
 use Rattle.drag_sheet.proofs.Overwritten.{Holds, holds-build, whole-holds, keeps}
 use Rattle.drag_sheet.proofs.Answers.{settings-facts, call-facts, Bounds, bounds, contents-with, blank-tried}
 use Rattle.drag_sheet.proofs.Duties.{narrow, call-holds}
-use Rattle.drag_sheet.proofs.CallLaws.{Ended, accepted, refusal, ended, Accepted, shown, left, parts-few}
+use Rattle.drag_sheet.proofs.CallLaws.{Ended, accepted, refusal, ended, shown, left, parts-few}
 
 -- ---- one call
 

@@ -1,13 +1,12 @@
 -- The rows as the functions make them: a part's, the friction rows, the base row, and the totals written one after the other.
-use mathlib.Core.Path.{_≡_, refl, sym, ap, _∙_}
+use mathlib.Core.Path.{_≡_, sym, ap, _∙_}
 use mathlib.Core.List.{List}
 use Prim.Native.Nat.{ℕ, _+_, _-_, _*_, _≤_, _<_}
 use native.Mathlib.Omega.{arith}
-use lib.ListN.{length, getD, take}
+use lib.ListN.{length, getD}
 use lib.Seq.{length-take-le}
 use lib.Ieee.{Float, nan}
 use Rattle.aero_error.specs.declared.Check.{Check}
-use Rattle.sheet_data.specs.declared.Settings.{Settings}
 use Rattle.sheet_data.specs.declared.Part.{Part}
 use Rattle.sheet_data.specs.declared.Sheet.{Sheet}
 use Rattle.sheet_data.specs.Layout.{most-parts, finishes, friction-row, base-row, total-row, all-rows, needed}

@@ -1,6 +1,6 @@
 -- Where the cells of a sheet lie (docs/REFERENCE.md, Sheet: "16 part rows, friction, base, total"), as functions of how many finishes F and columns C there are. A
 -- finish has a friction row and a total row; a sheet has one.
-use mathlib.Core.Path.{_≡_, refl}
+use mathlib.Core.Path.{_≡_}
 use Prim.Native.Nat.{ℕ, _+_, _*_, _≤_}
 use native.Mathlib.Nat.{mul-le-mul}
 use native.Mathlib.Omega.{arith}
@@ -14,7 +14,7 @@ most-columns = 32
 abbrev pub most-finishes : ℕ
 most-finishes = 1
 
--- how many finishes a sheet has. It is shut: all else rests on `finishes-some` and `finishes-few`
+-- how many finishes a sheet has. It is shut: the code's own `finishes` is proved to be it, and all else rests on `finishes-some` and `finishes-few`
 unfoldable pub finishes : ℕ
 finishes = 1
 

@@ -1,10 +1,9 @@
 // The text of a sheet: the lines that the program `sheet` prints for a stream of card bytes, put
 // into a lent buffer. Each function writes from a place on and answers the place after its text.
 ghost use mathlib.Core.Path.{_≡_};
-ghost use mathlib.Core.List.{List, [], _∷_, _++_};
+ghost use mathlib.Core.List.{[], _∷_, _++_};
 ghost use Prim.Native.Nat.{_+_, _*_, _≤_, _<_};
-ghost use lib.ListN.{length, take, drop};
-ghost use lib.Ieee.{toBits, binary64};
+ghost use lib.ListN.{length};
 ghost use Rattle.aero_error.specs.declared.Check.the-variants.{Passed};
 ghost use Rattle.sheet_data.specs.Layout.{most-parts, most-columns, finishes, all-rows, needed};
 ghost use Rattle.sheet_data.specs.Contents.{Fits};

@@ -1,11 +1,6 @@
 -- `row_at` meets its contract: the row of the part at the place, after the part before it.
-use mathlib.Core.Path.{_≡_, refl, sym, ap, _∙_}
-use native.Mathlib.Omega.{arith}
-use lib.ListN.{length, length-map}
-use lib.Seq.{length-take-le}
-use Rattle.sheet_data.specs.Layout.{most-parts}
-use Rattle.sheet_data.specs.Contents.{partsOf, part-taken}
-use Rattle.drag_sheet.proofs.RowKinds.{fore-taken}
+use mathlib.Core.Path.{refl}
+use lib.ListN.{length-map}
 use Rattle.drag_sheet.proofs.MadeRows.{row-made}
 use borrow.Author.Needs.{needs}
 use Rattle.drag_sheet.proofs.row_at.Statement.{statement}

@@ -1,5 +1,5 @@
 -- `write_changed` meets its contract: with a part after it, by `write_two`; without, its own row alone.
-use mathlib.Core.Path.{_≡_, refl, sym, ap, _∙_}
+use mathlib.Core.Path.{_≡_, sym, _∙_}
 use Prim.Native.Nat.{_+_}
 use native.Mathlib.Omega.{arith}
 use mathlib.Core.List.{_++_}
@@ -7,8 +7,7 @@ use lib.ListN.{length, take, drop, replicate, length-append, length-map}
 use lib.Seq.{take-at}
 use borrow.Author.Tests.{lt-ltb, le-ltb}
 use Rattle.elementary.specs.Constants.{0·0}
-use Rattle.aero_error.specs.CheckLaws.{then-passed}
-use Rattle.sheet_data.specs.Layout.{most-parts, most-columns}
+use Rattle.sheet_data.specs.Layout.{most-columns}
 use Rattle.sheet_data.specs.Contents.{contentsOf, partsOf}
 use Rattle.drag_sheet.proofs.Taken.{prefix-long}
 use Rattle.drag_sheet.proofs.Changed.{parts-long, own-steps, pair-rows}

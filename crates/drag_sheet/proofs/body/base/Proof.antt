@@ -1,5 +1,5 @@
 -- `base` meets its contract.
-use mathlib.Core.Path.{_≡_, refl, sym, ap, _∙_}
+use mathlib.Core.Path.{_≡_}
 use lib.ListN.{length, length-map}
 use lib.Seq.{length-take-le}
 use native.Mathlib.Omega.{arith}

@@ -1,7 +1,6 @@
 -- `build_rows` meets its contract: the part rows, then the last rows, over cells of +0.
-use mathlib.Core.Path.{_≡_, refl, sym, ap, _∙_}
+use mathlib.Core.Path.{_≡_, sym, _∙_}
 use native.Mathlib.Omega.{arith}
-use native.Mathlib.Nat.{le-of-eq}
 use lib.ListN.{length, length-map}
 use lib.Seq.{length-take-le}
 use Rattle.sheet_data.specs.Contents.{contentsOf, partsOf}

@@ -1,26 +1,18 @@
 -- `part_rows` meets its contract: the rows of the places before this one are written, and each of them could be.
-use mathlib.Core.Path.{_≡_, refl, sym, ap, _∙_}
+use mathlib.Core.Path.{_≡_, sym, _∙_}
 use mathlib.Core.List.{List}
-use Prim.Native.Nat.{ℕ, _+_, _-_, _*_, _≤_}
+use Prim.Native.Nat.{ℕ, _+_, _-_, _≤_}
 use native.Mathlib.Omega.{arith}
-use native.Mathlib.Numerals.{add-one}
 use lib.ListN.{length, take, length-map}
 use lib.Seq.{length-take-le}
-use lib.Ieee.{Float}
 use borrow.Rule.Slice.PartMut.{same-len-mid}
-use Rattle.aero_error.specs.declared.Check.the-variants.{Passed}
-use Rattle.aero_error.specs.Checks.{upTo}
-use Rattle.aero_error.specs.CheckLaws.{up-none, up-more, up-failed, up-end}
+use Rattle.aero_error.specs.CheckLaws.{up-failed, up-end}
 use Rattle.sheet_data.specs.declared.Part.{Part}
 use Rattle.sheet_data.specs.declared.Settings.{Settings}
-use Rattle.sheet_data.specs.Layout.{most-parts}
-use Rattle.sheet_data.specs.Contents.{Contents, partAt, part-taken, foreAt}
-use Rattle.sheet_data.specs.Rows.{from, written, rowsWritten}
-use Rattle.sheet_data.specs.RowLaws.{middle-long, put-row, rows-more}
-use Rattle.drag_sheet.specs.Formulas.{preparedOf}
-use Rattle.drag_sheet.specs.Build.{preparedAt, rowTest, rowOf, trial}
+use Rattle.sheet_data.specs.Contents.{Contents, part-taken}
+use Rattle.sheet_data.specs.RowLaws.{middle-long}
+use Rattle.drag_sheet.specs.Build.{trial}
 use Rattle.drag_sheet.proofs.Verdicts.{filled-refused, filled-passed}
-use Rattle.drag_sheet.proofs.RowKinds.{row-wide}
 use Rattle.drag_sheet.proofs.Laying.{Laying, none-laid, prepared-next, laid-next}
 use borrow.Author.Needs.{needs}
 use Rattle.drag_sheet.proofs.rows.part_rows.Statement.{statement}

@@ -1,5 +1,5 @@
 -- `sum_rows` meets its contract: the part rows, then the finish's friction row, then the base row.
-use mathlib.Core.Path.{_≡_, refl, sym, ap, _∙_}
+use mathlib.Core.Path.{_≡_, sym, ap, _∙_}
 use Prim.Native.Nat.{_+_}
 use native.Mathlib.Omega.{arith}
 use lib.ListN.{length, length-replicate}

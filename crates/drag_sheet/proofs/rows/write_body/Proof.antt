@@ -1,5 +1,5 @@
 -- `write_body` meets its contract: the friction rows, the base row and the total rows, written in this order.
-use mathlib.Core.Path.{_≡_, refl, sym, ap, _∙_}
+use mathlib.Core.Path.{ap, _∙_}
 use native.Mathlib.Omega.{arith}
 use Rattle.sheet_data.specs.Contents.{contentsOf}
 use Rattle.sheet_data.specs.Rows.{rowsWritten}

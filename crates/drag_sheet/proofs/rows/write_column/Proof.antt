@@ -1,8 +1,6 @@
 -- `write_column` meets its contract: the cells of the rows before this one are put.
-use mathlib.Core.Path.{_≡_, refl, sym, ap, _∙_}
-use Prim.Native.Nat.{_+_, _-_, _≤_}
+use Prim.Native.Nat.{_-_}
 use native.Mathlib.Omega.{arith}
-use lib.ListN.{length}
 use Rattle.sheet_data.specs.RowLaws.{rows-none, rows-end}
 use Rattle.drag_sheet.proofs.Laying.{Putting, put-next}
 use borrow.Author.Needs.{needs}

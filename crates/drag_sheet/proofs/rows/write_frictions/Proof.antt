@@ -1,5 +1,5 @@
 -- `write_frictions` meets its contract: the friction rows of the finishes before this one are written.
-use mathlib.Core.Path.{_≡_, refl, sym, ap, _∙_}
+use mathlib.Core.Path.{_≡_, _∙_}
 use Prim.Native.Nat.{_+_, _-_, _<_}
 use native.Mathlib.Omega.{arith}
 use Rattle.sheet_data.specs.Layout.{finishes, finishes-few, friction-row}

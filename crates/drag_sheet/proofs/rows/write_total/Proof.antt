@@ -1,8 +1,8 @@
 -- `write_total` meets its contract.
-use mathlib.Core.Path.{_≡_, refl, sym, ap, _∙_}
+use mathlib.Core.Path.{_≡_, ap, _∙_}
 use Prim.Native.Nat.{_+_}
 use native.Mathlib.Omega.{arith}
-use lib.ListN.{length, replicate, length-append, length-replicate}
+use lib.ListN.{length, replicate, length-append}
 use lib.Seq.{take-at}
 use Rattle.elementary.specs.Constants.{0·0}
 use Rattle.sheet_data.specs.Layout.{most-columns, finishes, finishes-few, total-row}

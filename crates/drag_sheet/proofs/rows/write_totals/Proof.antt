@@ -1,5 +1,4 @@
 -- `write_totals` meets its contract: the totals of the finishes before this one are written.
-use mathlib.Core.Path.{_≡_, refl, sym, ap, _∙_}
 use Prim.Native.Nat.{_-_}
 use native.Mathlib.Omega.{arith}
 use Rattle.sheet_data.specs.Layout.{finishes}
