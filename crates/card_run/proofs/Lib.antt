@@ -3,3 +3,4 @@ pub mod Stream
 pub mod Answers
 pub mod Prefix
 pub mod Never
+pub mod Built

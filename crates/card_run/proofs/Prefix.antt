@@ -26,11 +26,11 @@ use Rattle.card_run.proofs.Stream.{sheetThen, cellsThen, same-card, car
 use Rattle.card_run.proofs.Answers.{one-more, accepted-part}
 
 -- the array of a design holds its parts
-abbrev Held : Sheet → Type 0
+abbrev pub Held : Sheet → Type 0
 Held sheet = sheet .design .count ≤ length (sheet .design .parts)
 
 -- it has one part more after an insert, and holds them
-one-more-held : (sheet : Sheet) (part : Part) → Held sheet → (sheetThen sheet part .design .count ≡ sheet .design .count + 1) × Held (sheetThen sheet part)
+pub one-more-held : (sheet : Sheet) (part : Part) → Held sheet → (sheetThen sheet part .design .count ≡ sheet .design .count + 1) × Held (sheetThen sheet part)
 one-more-held sheet part h =
     let n = sheet .design .count in
     let new = insertAt n part (take n (sheet .design .parts)) in

@@ -1,16 +1,18 @@
 -- The rows, the settings and the design after every list of calls are the model's, and so is every answer. It takes of the program nothing but its contracts, and
 -- that a sheet's arrays have their lengths.
 use mathlib.Core.Path.{_≡_, refl, sym, ap, _∙_, subst}
-use mathlib.Core.List.{List, _++_}
+use mathlib.Core.List.{List, _++_, map}
 use Prim.Native.Nat.{ℕ, _+_, _≤_}
 use native.Mathlib.Omega.{arith}
 use lib.ListN.{length, drop, length-set, length-append, length-drop}
 use lib.Seq.{length-take-le}
 use lib.Ieee.{Float}
+use Rattle.aero_error.specs.declared.AeroError.{AeroError}
 use Rattle.aero_error.specs.declared.Check.{Check}
 use Rattle.aero_error.specs.declared.Check.the-variants.{Passed, Failed}
 use Rattle.aero_error.specs.Checks.{_then_}
 use Rattle.aero_error.specs.CheckLaws.{then-assoc}
+use Rattle.aero_error.specs.Told.{told}
 use Rattle.sheet_data.specs.declared.Settings.{Settings}
 use Rattle.sheet_data.specs.declared.Sheet.{Sheet}
 use Rattle.sheet_data.specs.Layout.{most-parts, most-columns, needed}
@@ -20,8 +22,8 @@ use Rattle.drag_sheet.specs.declared.Answer.{Answer}
 use Rattle.drag_sheet.specs.Build.{trial}
 use Rattle.drag_sheet.specs.Writing.{whole, overwritten}
 use Rattle.drag_sheet.specs.Calls.{Call, replace, insert, remove, setColumn, argumentsTest, scope, after, callTest, decision, sheetWith, answered, Called, Opened}
-use Rattle.drag_sheet.specs.Model.{openedModel, modelDecision, moved, modelAfter, modelAnswers}
-use Rattle.drag_sheet.specs.Lists.{Sequence, stop, go, Arrays, Matches, Agrees}
+use Rattle.drag_sheet.specs.Model.{openedModel, modelDecision, moved, modelAfter, modelDecisions}
+use Rattle.drag_sheet.specs.Lists.{Sequence, stop, go, Arrays, Matches, Agrees, Session}
 use Rattle.drag_sheet.proofs.Verdicts.{never}
 use Rattle.drag_sheet.proofs.Overwritten.{Holds, holds-build, whole-holds, keeps}
 use Rattle.drag_sheet.proofs.Answers.{settings-facts, call-facts, Bounds, bounds, contents-with, blank-tried}
@@ -109,24 +111,34 @@ step lent C sheet xs call r ys k c = by (ended call sheet xs r ys c)
 -- ---- a list of calls
 
 runs : (lent : List Float) (C : ℕ) {sheet last : Sheet} {xs zs : List Float} {calls : List Call} {outcomes : List Check} → Kept lent C sheet xs → Sequence sheet xs calls last zs outcomes
-    → Kept lent C last zs × (contentsOf last ≡ modelAfter (length lent) calls (contentsOf sheet)) × (outcomes ≡ modelAnswers (length lent) calls (contentsOf sheet))
-unfolding modelAfter modelAnswers
+    → Kept lent C last zs × (contentsOf last ≡ modelAfter (length lent) calls (contentsOf sheet)) × (outcomes ≡ modelDecisions (length lent) calls (contentsOf sheet))
+unfolding modelAfter modelDecisions
 runs lent C k stop = (k, refl, refl)
 runs lent C {sheet} {last} {xs} k (go {ys} {call} {calls} {r} c rest) =
     let a = step lent C sheet xs call r ys k c in
     let b = runs lent C (a .0) rest in
     (b .0, b .1 ∙ ap (modelAfter (length lent) calls) (a .1), rw (b .2, a .1, a .2))
 
--- ---- an accepted open
+-- ---- an open
 
-passed : (d : Check) (sheet : Sheet) (r : Answer) → r ≡ answered d sheet sheet → r .outcome ≡ Passed → d ≡ Passed
-passed Passed sheet r e a = refl
-passed (Failed x) sheet r e a = never (ap (λ (q : Answer). q .outcome) e) a
+-- open's outcome is its test's, and refused it leaves the cells
+open-outcome : (d : Check) (sheet : Sheet) → answered d sheet sheet .outcome ≡ d
+open-outcome Passed sheet = refl
+open-outcome (Failed e) sheet = refl
+
+outcome-of : (s : Settings) (xs : List Float) (r : Answer) (ys : List Float) → Opened s xs r ys → r .outcome ≡ settingsTest s (length xs)
+outcome-of s xs r ys o = ap (λ (q : Answer). q .outcome) (o .answer) ∙ open-outcome (settingsTest s (length xs)) (blank s)
+
+open-refused : (s : Settings) (xs : List Float) (r : Answer) (ys : List Float) (e : AeroError) → Opened s xs r ys → r .outcome ≡ Failed e → (r .sheet ≡ blank s) × (ys ≡ xs)
+open-refused s xs r ys e o f =
+    let d = sym (outcome-of s xs r ys o) ∙ f in
+    let e : r ≡ record { outcome = Failed e; sheet = blank s } = o .answer ∙ rw d in
+    (ap (λ (q : Answer). q .sheet) e, o .left ∙ rw d)
 
 opens : (s : Settings) (xs : List Float) (r : Answer) (ys : List Float) → length (s .machs) ≡ most-columns → length (s .reynolds) ≡ most-columns
     → Opened s xs r ys → r .outcome ≡ Passed → Kept xs (s .count) (r .sheet) ys × (r .sheet ≡ blank s)
 opens s xs r ys m n o a =
-    let p = passed (settingsTest s (length xs)) (blank s) r (o .answer) a in
+    let p = sym (outcome-of s xs r ys o) ∙ a in
     let f = settings-facts s (length xs) p in
     let c = contentsOf (blank s) in
     let e : r ≡ record { outcome = Passed; sheet = blank s } = o .answer ∙ rw p in
@@ -143,12 +155,10 @@ opens s xs r ys m n o a =
     } in
     (rw (e, l) k, ap (λ (x : Answer). x .sheet) e)
 
--- Demand 3: from an accepted open with whatever settings and cells, for every list of calls. The two lengths are those of the arrays of every `Settings`.
-pub lists-agree : (s : Settings) (xs : List Float) (r : Answer) (ys : List Float) {calls : List Call} {last : Sheet} {zs : List Float} {outcomes : List Check}
-    → length (s .machs) ≡ most-columns → length (s .reynolds) ≡ most-columns
-    → Opened s xs r ys → r .outcome ≡ Passed → Sequence (r .sheet) ys calls last zs outcomes → Agrees xs (openedModel s) calls last zs outcomes
-lists-agree s xs r ys {calls} {last} {zs} {outcomes} m n o a run =
-    let k = opens s xs r ys m n o a in
+-- from an accepted open, for every list of calls
+agrees : (s : Settings) (xs : List Float) (r : Answer) (ys : List Float) {calls : List Call} {last : Sheet} {zs : List Float} {outcomes : List Check}
+    → Kept xs (s .count) (r .sheet) ys × (r .sheet ≡ blank s) → Sequence (r .sheet) ys calls last zs outcomes → Agrees xs (openedModel s) calls last zs outcomes
+agrees s xs r ys {calls} {last} {zs} k run =
     let b = runs xs (s .count) (k .0) run in
     let start : contentsOf (r .sheet) ≡ openedModel s = ap contentsOf (k .1) in
     let model = b .1 ∙ ap (modelAfter (length xs) calls) start in
@@ -158,4 +168,17 @@ lists-agree s xs r ys {calls} {last} {zs} {outcomes} m n o a run =
       contents = refl;
       count = sym (parts-long xs (s .count) last zs (b .0));
     } in
-    record { matches = subst (Matches last zs) model matches; answers = b .2 ∙ ap (modelAnswers (length xs) calls) start; beyond = b .0 .past }
+    record {
+      matches = subst (Matches last zs) model matches;
+      answers = ap (map told) (b .2 ∙ ap (modelDecisions (length xs) calls) start);
+      beyond = b .0 .past;
+    }
+
+-- Demand 3. The two lengths are those of the arrays of every `Settings`.
+pub lists-agree : (s : Settings) (xs : List Float) (r : Answer) (ys : List Float) → length (s .machs) ≡ most-columns → length (s .reynolds) ≡ most-columns
+    → Opened s xs r ys → Session s xs r ys
+lists-agree s xs r ys m n o = record {
+  answer = ap told (outcome-of s xs r ys o);
+  refused = λ e f. open-refused s xs r ys e o f;
+  accepted = λ a run. agrees s xs r ys (opens s xs r ys m n o a) run;
+}

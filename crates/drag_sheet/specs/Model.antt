@@ -1,16 +1,22 @@
 -- The model that a list of calls is held against: the copy that is kept by hand (docs/REFERENCE.md, Hand copy). It is fed the calls' arguments and the number
 -- of cells lent, and nothing else. It holds contents: the settings with their columns, and the parts in order.
-use mathlib.Core.List.{List, [], _∷_}
+use mathlib.Core.List.{List, [], _∷_, map}
+use mathlib.Core.Option.{Option}
 use Prim.Native.Nat.{ℕ}
 use lib.ListN.{length}
 use Rattle.aero_error.specs.declared.Check.{Check}
 use Rattle.aero_error.specs.Checks.{_then_}
+use Rattle.aero_error.specs.Told.{Told, told}
 use Rattle.sheet_data.specs.declared.Settings.{Settings}
 use Rattle.sheet_data.specs.Contents.{Contents}
-use Rattle.sheet_data.specs.Tests.{sheetTest}
+use Rattle.sheet_data.specs.Tests.{settingsTest, sheetTest}
 use Rattle.drag_sheet.specs.Build.{trial}
 use Rattle.drag_sheet.specs.Writing.{chosen}
 use Rattle.drag_sheet.specs.Calls.{Call, applied, argumentsTest}
+
+-- "Open is refused where the order below refuses it", with the number of cells lent
+abbrev pub openDecision : ℕ → Settings → Check
+openDecision cells s = settingsTest s cells
 
 -- "an accepted one gives its settings and no parts"
 abbrev pub openedModel : Settings → Contents
@@ -33,7 +39,11 @@ unfoldable pub modelAfter : ℕ → List Call → Contents → Contents
 modelAfter cells [] m = m
 modelAfter cells (c ∷ cs) m = modelAfter cells cs (moved cells c m)
 
--- its answers, call by call: "accepted, or the refusal's number, with 1's code and value"
-unfoldable pub modelAnswers : ℕ → List Call → Contents → List Check
-modelAnswers cells [] m = []
-modelAnswers cells (c ∷ cs) m = modelDecision cells c m ∷ modelAnswers cells cs (moved cells c m)
+-- its decisions, call by call
+unfoldable pub modelDecisions : ℕ → List Call → Contents → List Check
+modelDecisions cells [] m = []
+modelDecisions cells (c ∷ cs) m = modelDecision cells c m ∷ modelDecisions cells cs (moved cells c m)
+
+-- its answers: "accepted, or the refusal's number, with 1's code and value"
+abbrev pub modelAnswers : ℕ → List Call → Contents → List (Option Told)
+modelAnswers cells calls m = map told (modelDecisions cells calls m)

@@ -5,5 +5,6 @@ pub mod Root
 pub mod Powers
 pub mod Value
 pub mod Sizes
+pub mod Bounds
 pub mod Nearest
 pub mod Cases

@@ -6,7 +6,7 @@ use native.Mathlib.Nat.{mul-assoc, mul-comm, mul-left-comm, mul-right-comm, mul-
 use native.Mathlib.Omega.{arith}
 use lib.IntN.{ℤ, pos, negsuc}
 use lib.Dec.{T, ltb, eqb, lit≤, lit<}
-use lib.Pow.{pow-pos, pow-add, pow-mono, shl-lt}
+use lib.Pow.{pow-pos, pow-add, pow-mono, pow-lt, shl-lt}
 use lib.Ieee.{Float, nan, inf, fin, binary64, up, down, round, units, size, unlike, sum, add, div, neg, lt, eq, le, isNan, ofBits}
 use lib.Ieee.Fits.{up-pos, down-pos, round-is}
 use lib.Ieee.Exact.{HasValue, units-val}
@@ -27,26 +27,45 @@ within-of s (fin t m e) a c n C v h = le-of-mul-le-mul-right (le-trans (le-of-eq
 closest-whole : (x : ℕ) → closest x 1 ≡ x
 closest-whole x = rw (mod-one x, div-one x)
 
-pub round-within : (s : Bool) (a c n : ℕ) → 0 < c → n < 2 ^ 53 → a ≤ n * c → Within n (round binary64 s a c)
-round-within s a c n C N h =
+-- a bound that is itself a float: w × 2 ^ j, with w of no more digits than a float has
+pub record Fine (n : ℕ) : Type 0 where
+  pub w : ℕ
+  pub j : ℕ
+  pub is : n ≡ w * 2 ^ j
+  pub narrow : w < 2 ^ 53
+  pub under : w * 2 ^ (1074 + j) < 2 ^ 2098
+
+pub small : (n : ℕ) → n < 2 ^ 53 → Fine n
+small n h = record { w = n; j = 0; is = sym (mul-one n); narrow = h; under = lt-of-lt-of-le (shl-lt 53 1074 h) (pow-mono {i = 1127} {j = 2098} (lit≤ tt)) }
+
+pub power : (j : ℕ) → j ≤ 1023 → Fine (2 ^ j)
+power j h = record { w = 1; j = j; is = sym (one-mul (2 ^ j)); narrow = lit< tt; under = rw (one-mul (2 ^ (1074 + j))) (pow-lt {i = 1074 + j} {j = 2098} (omega arith)) }
+
+pub round-within : (s : Bool) (a c n : ℕ) → 0 < c → Fine n → a ≤ n * c → Within n (round binary64 s a c)
+round-within s a c n C F h =
+    let w = F .w in
+    let j = F .j in
     let top = a * 2 ^ 1074 in
     let k = size (top / c) - 53 in
     let u = c * 2 ^ k in
     let q = closest top u in
-    let less : top ≤ n * 2 ^ 1074 * c = le-trans (mul-le-mul-right (2 ^ 1074) h) (le-of-eq (mul-right-comm n c (2 ^ 1074))) in
-    let small : n * 2 ^ 1074 < 2 ^ 1127 = shl-lt 53 1074 N in
-    let digits : size (top / c) ≤ 1127 = size-le (top / c) 1127 (lt-of-le-of-lt (div-le-of-le-mul c (le-trans less (le-of-eq (mul-comm (n * 2 ^ 1074) c)))) small) in
-    let whole : n * 2 ^ (1074 - k) * 2 ^ k ≡ n * 2 ^ 1074 = mul-assoc n (2 ^ (1074 - k)) (2 ^ k) ∙ ap (λ (z : ℕ). n * z) (sym (pow-add 2 (1074 - k) k) ∙ ap (λ (z : ℕ). 2 ^ z) (back 1074 k (omega arith))) in
-    let few : q ≤ n * 2 ^ (1074 - k) =
+    let bound : n * 2 ^ 1074 ≡ w * 2 ^ (1074 + j) = ap (λ (z : ℕ). z * 2 ^ 1074) (F .is) ∙ mul-assoc w (2 ^ j) (2 ^ 1074) ∙ ap (λ (z : ℕ). w * z) (mul-comm (2 ^ j) (2 ^ 1074) ∙ sym (pow-add 2 1074 j)) in
+    let less : top ≤ w * 2 ^ (1074 + j) * c = le-trans (mul-le-mul-right (2 ^ 1074) h) (le-of-eq (mul-right-comm n c (2 ^ 1074) ∙ ap (λ (z : ℕ). z * c) bound)) in
+    let fits : w * 2 ^ (1074 + j) < 2 ^ (53 + (1074 + j)) = shl-lt 53 (1074 + j) (F .narrow) in
+    let digits : size (top / c) ≤ 53 + (1074 + j) = size-le (top / c) (53 + (1074 + j)) (lt-of-le-of-lt (div-le-of-le-mul c (le-trans less (le-of-eq (mul-comm (w * 2 ^ (1074 + j)) c)))) fits) in
+    let whole : w * 2 ^ (1074 + j - k) * 2 ^ k ≡ w * 2 ^ (1074 + j) = mul-assoc w (2 ^ (1074 + j - k)) (2 ^ k) ∙ ap (λ (z : ℕ). w * z) (sym (pow-add 2 (1074 + j - k) k) ∙ ap (λ (z : ℕ). 2 ^ z) (back (1074 + j) k (omega arith))) in
+    let r = w * 2 ^ (1074 + j - k) in
+    let few : q ≤ r =
     le-trans
-    (closest-mono top u (n * 2 ^ (1074 - k)) 1 (mul-pos C (pow-pos k)) (zero-lt-suc 0)
-    (le-trans (le-of-eq (mul-one top)) (le-trans less (le-of-eq (ap (λ (z : ℕ). z * c) (sym whole) ∙ mul-assoc (n * 2 ^ (1074 - k)) (2 ^ k) c ∙ ap (λ (z : ℕ). n * 2 ^ (1074 - k) * z) (mul-comm (2 ^ k) c))))))
-    (le-of-eq (closest-whole (n * 2 ^ (1074 - k)))) in
-    let bound : q * 2 ^ k ≤ n * 2 ^ 1074 = le-trans (mul-le-mul-right (2 ^ k) few) (le-of-eq whole) in
-    rw (round-is binary64 s a c) (within-of s (units binary64 s q k) (q * 2 ^ k) (2 ^ 1074) n (pow-pos 1074) (units-val binary64 s q k (lt-of-le-of-lt bound (lt-of-lt-of-le small (pow-mono {i = 1127} {j = 2098} (lit≤ tt))))) bound)
+    (closest-mono top u r 1 (mul-pos C (pow-pos k)) (zero-lt-suc 0)
+    (le-trans (le-of-eq (mul-one top)) (le-trans less (le-of-eq (ap (λ (z : ℕ). z * c) (sym whole) ∙ mul-assoc r (2 ^ k) c ∙ ap (λ (z : ℕ). r * z) (mul-comm (2 ^ k) c))))))
+    (le-of-eq (closest-whole r)) in
+    let held : q * 2 ^ k ≤ w * 2 ^ (1074 + j) = le-trans (mul-le-mul-right (2 ^ k) few) (le-of-eq whole) in
+    rw (round-is binary64 s a c)
+    (within-of s (units binary64 s q k) (q * 2 ^ k) (2 ^ 1074) n (pow-pos 1074) (units-val binary64 s q k (lt-of-le-of-lt held (F .under))) (le-trans held (le-of-eq (sym bound))))
 
 -- ---- y / LN_2 is at most twice y in size, since LN_2 is more than 1/2
-pub quotient-within : (y : Float) (n : ℕ) → 2 * n < 2 ^ 53 → Within n y → Within (2 * n) (y ⊘ «LN_2»)
+pub quotient-within : (y : Float) (n : ℕ) → Fine (2 * n) → Within n y → Within (2 * n) (y ⊘ «LN_2»)
 unfolding div ofBits
 quotient-within nan n h w = w
 quotient-within (inf s) n h w = w
@@ -56,7 +75,7 @@ quotient-within (fin s m e) n h w =
     (rw (mul-mul-mul-comm 2 n (6243314768165359 * 1) (down e)) (omega arith))
 
 -- ---- a sum is at most the sum of the sizes
-sum-within : (s t : Bool) (a b c n : ℕ) → 0 < c → n < 2 ^ 53 → a + b ≤ n * c → Within n (sum binary64 s a t b c)
+pub sum-within : (s t : Bool) (a b c n : ℕ) → 0 < c → Fine n → a + b ≤ n * c → Within n (sum binary64 s a t b c)
 unfolding sum
 sum-within s t a b c n C N h = go (Bool·beq s t) (ltb a b)
   where
@@ -65,7 +84,7 @@ sum-within s t a b c n C N h = go (Bool·beq s t) (ltb a b)
     go false true = round-within t (b - a) c n C N (omega arith)
     go false false = round-within (s && ltb b a) (a - b) c n C N (omega arith)
 
-pub half-more-within : (x : Float) (n : ℕ) → n + 1 < 2 ^ 53 → Within n x → Within (n + 1) (x ⊕ 0·5)
+pub half-more-within : (x : Float) (n : ℕ) → Fine (n + 1) → Within n x → Within (n + 1) (x ⊕ 0·5)
 unfolding add ofBits
 half-more-within nan n h w = w
 half-more-within (inf s) n h w = w
@@ -106,4 +125,4 @@ between-bounds (fin true m e) a b c = let h = ltb-false (373 * 2 * down e) (m * 
 
 -- there y / LN_2 + 0.5 is at most 1493 in size
 pub exponent-within : (y : Float) → Within 746 y → Within 1493 (y ⊘ «LN_2» ⊕ 0·5)
-exponent-within y w = half-more-within (y ⊘ «LN_2») 1492 (lit< tt) (quotient-within y 746 (lit< tt) w)
+exponent-within y w = half-more-within (y ⊘ «LN_2») 1492 (small 1493 (lit< tt)) (quotient-within y 746 (small 1492 (lit< tt)) w)

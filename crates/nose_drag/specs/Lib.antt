@@ -9,3 +9,4 @@ pub mod Values
 pub mod Curves
 pub mod Depth
 pub mod Weights
+pub mod Between

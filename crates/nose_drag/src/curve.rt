@@ -3,7 +3,7 @@
 ghost use mathlib.Core.Path.{_≡_};
 ghost use Prim.Native.Nat.{_≤_, suc};
 ghost use Rattle.nose_drag.specs.Forms.{sinHalfAngle};
-ghost use Rattle.nose_drag.specs.Methods.{wholeCone, referenceAt, methodAt};
+ghost use Rattle.nose_drag.specs.Methods.{referenceAt, methodAt};
 ghost use Rattle.nose_drag.specs.Curves.{fromTransonic, curveAt, stepCurve, coefficientOf};
 ghost use Rattle.nose_drag.specs.Depth.{depthOfReference, depthOfTransonic};
 ghost use Rattle.nose_drag.specs.declared.curve.Transonic.the-variants.{Cone};
@@ -106,8 +106,9 @@ impl Reference {
         }
     }
 
-    // The value alone.
-    fn value(self, mach: f64) -> f64
+    // The value alone. From Mach 1 a cone's whole curve is its method, so that only below a curve is made and asked, one call deeper.
+    fn value(self, mach: f64, depth: u8) -> f64
+        requires { ⌜ depthOfReference self ≤ depth ⌝ }
         ensures { λ r. ⌜ r ≡ referenceAt self mach .value ⌝ }
     {
         match self {
@@ -116,26 +117,21 @@ impl Reference {
                 fineness_ratio,
                 factor,
                 rest,
-            } => whole_cone_value(fineness_ratio, factor, rest, mach),
+            } => {
+                if mach < 1.0 {
+                    let cone = Transonic::cone(fineness_ratio, factor);
+                    let curve = PressureDragCurve::from_transonic(rest, cone, 1.0, depth - 1);
+                    let at = curve.value_and_slope(mach, depth - 1);
+                    at.value
+                } else {
+                    cone_value(sin_half_angle(fineness_ratio), factor, mach)
+                }
+            }
             Reference::Stoney(nose) => {
                 let at = nose.value_and_slope(mach);
                 at.value
             }
         }
-    }
-}
-
-// The value of a cone's whole curve. From Mach 1 it is the method's, so that only below a curve is made and asked.
-fn whole_cone_value(fineness_ratio: f64, factor: f64, rest: f64, mach: f64) -> f64
-    ensures { λ r. ⌜ r ≡ wholeCone «fineness_ratio» factor rest mach .value ⌝ }
-{
-    if mach < 1.0 {
-        let cone = Transonic::cone(fineness_ratio, factor);
-        let curve = PressureDragCurve::from_transonic(rest, cone, 1.0, DEPTH);
-        let at = curve.value_and_slope(mach, DEPTH);
-        at.value
-    } else {
-        cone_value(sin_half_angle(fineness_ratio), factor, mach)
     }
 }
 
@@ -178,7 +174,8 @@ impl Transonic {
     }
 
     // The value alone, which is all that a coefficient takes: each case hands on its numbers, and no method is copied.
-    fn value(self, mach: f64) -> f64
+    fn value(self, mach: f64, depth: u8) -> f64
+        requires { ⌜ depthOfTransonic self ≤ depth ⌝ }
         ensures { λ r. ⌜ r ≡ methodAt self mach .value ⌝ }
     {
         match self {
@@ -193,8 +190,8 @@ impl Transonic {
                 weight,
                 exponent,
             } => {
-                let lo = lower.value(mach);
-                let hi = upper.value(mach);
+                let lo = lower.value(mach, depth - 1);
+                let hi = upper.value(mach, depth - 1);
                 scaled_value(lo, hi, weight, exponent, mach)
             }
             Transonic::Ellipsoid {
@@ -293,6 +290,6 @@ impl PressureDragCurve {
             return Coefficient::Value(self.rest + rise.value);
         }
         let transonic = self.transonic;
-        Coefficient::Value(transonic.value(mach))
+        Coefficient::Value(transonic.value(mach, DEPTH - 1))
     }
 }

@@ -131,3 +131,9 @@ pub record Printed (s : List ℕ) (xs : List ℕ) (r : ℕ) (ys : List ℕ) : Ty
   pub count : r ≡ length (printed s (length xs))
   pub bytes : ys ≡ printed s (length xs) ++ drop (length (printed s (length xs))) xs
   pub within : r ≤ length ys
+
+-- what the program prints from what it read, the first n bytes of a buffer: for every stream whose first bytes, as many as the buffer holds, are those, the text is that
+-- stream's
+pub record Answered (input : List ℕ) (n r : ℕ) (ys : List ℕ) : Type 0 where
+  pub text : (s : List ℕ) → take (length input) s ≡ take n input → take r ys ≡ answerText s
+  pub within : r ≤ length ys

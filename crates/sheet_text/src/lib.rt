@@ -3,15 +3,16 @@
 ghost use mathlib.Core.Path.{_≡_};
 ghost use mathlib.Core.List.{[], _∷_, _++_};
 ghost use Prim.Native.Nat.{_+_, _*_, _≤_, _<_};
-ghost use lib.ListN.{length};
+ghost use lib.ListN.{length, take};
 ghost use Rattle.aero_error.specs.declared.Check.the-variants.{Passed};
 ghost use Rattle.sheet_data.specs.Layout.{most-parts, most-columns, finishes, all-rows, needed};
 ghost use Rattle.sheet_data.specs.Contents.{Fits};
 ghost use Rattle.sheet_data.specs.Rows.{rowAt};
 ghost use Rattle.sheet_text.specs.Bytes.{digits, line-feed, hexDigit, hexDigits, decimal, Put};
-ghost use Rattle.sheet_text.specs.Text.{number-text, row-text, part-text, body-text, most-text, numberText, numbersText, lineText, partName, partLines, bodyText, sheetText, refusedText, runText, Printed};
+ghost use Rattle.sheet_text.specs.Text.{number-text, row-text, part-text, body-text, most-text, numberText, numbersText, lineText, partName, partLines, bodyText, sheetText, refusedText, runText, Printed, Answered};
 use aero_error::Check;
 use card_run::Run;
+use card_run::STREAM_BYTES;
 use sheet_data::Sheet;
 use sheet_data::layout::CELLS;
 use sheet_data::layout::COLUMNS;
@@ -245,4 +246,22 @@ pub fn print_stream(s: &[u8], out: &mut [u8]) -> usize
     let mut cells = [0.0; CELLS];
     let run = card_run::run_stream(s, &mut cells);
     put_run(run, &cells, out)
+}
+
+// The same for the first n bytes of a slice, or for all where it has fewer.
+fn print_first(s: &[u8], n: usize, out: &mut [u8]) -> usize
+    ensures { λ r. ⌜ Printed (take n (now (s .entry))) (now (out .entry)) r (now (out .exit)) ⌝ }
+{
+    if n < s.len() {
+        return print_stream(&s[..n], out);
+    }
+    print_stream(s, out)
+}
+
+// What `sheet` prints for a stream of which it read the first n bytes, as many as the buffer holds or
+// all there are. The sizes of the two buffers stand in the types, so that the contract is about them.
+pub fn print_read(input: &[u8; STREAM_BYTES], n: usize, out: &mut [u8; MOST_TEXT]) -> usize
+    ensures { λ r. ⌜ Answered (now (input .entry)) n r (now (out .exit)) ⌝ }
+{
+    print_first(input, n, out)
 }

@@ -9,7 +9,7 @@ pub main-spec : {M : Type 1} → statement M
 main-spec =
     tie.close
     (tie.spec
-    (λ c. search needs) (λ c κs. search needs) (λ c. search needs) (λ c. search needs) (λ c. search needs) (λ c κs. search needs)
-    (λ c. search needs)
-    (λ c. sym (length-take-le _ _ (c .before .before .print-stream .ensures .within)))
+    (λ c. search needs) (λ c κs. search needs) (λ c κs. search needs)
+    (λ c. c .print-read .ensures .within)
+    (λ c. sym (length-take-le _ _ (c .before .print-read .ensures .within)))
     (λ c κs. search needs) (λ c. search needs))

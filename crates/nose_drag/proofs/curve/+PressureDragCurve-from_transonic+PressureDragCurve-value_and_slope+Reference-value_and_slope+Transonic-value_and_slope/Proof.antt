@@ -3,7 +3,7 @@
 -- `make` is `PressureDragCurve::from_transonic`, `curve`, `reference` and `method` are the three `value_and_slope`.
 use Prim.Native.Nat.{ℕ, suc, max, _≤_, _<_}
 use native.Mathlib.Omega.{arith}
-use mathlib.Core.Path.{_≡_, refl, sym, ap, _∙_, subst}
+use mathlib.Core.Path.{_≡_, sym, ap, _∙_}
 use mathlib.Core.Bool.{true, false}
 use lib.Ieee.{Float}
 use borrow.Author.Needs.{needs}
@@ -17,11 +17,11 @@ use Rattle.nose_drag.specs.declared.curve.CurveShape.{CurveShape}
 use Rattle.nose_drag.specs.declared.curve.Reference.{Reference}
 use Rattle.nose_drag.specs.declared.curve.Transonic.{Transonic}
 use Rattle.nose_drag.specs.declared.curve.PressureDragCurve.{PressureDragCurve}
-use Rattle.nose_drag.specs.Forms.{sinHalfAngle}
 use Rattle.nose_drag.specs.Below.{fitOf, fitAt, restWith, fitWith, fitted}
-use Rattle.nose_drag.specs.Methods.{wholeCone, scaled, referenceAt, methodAt}
+use Rattle.nose_drag.specs.Methods.{scaled, referenceAt, methodAt}
 use Rattle.nose_drag.specs.Curves.{fromTransonic, curveAt}
 use Rattle.nose_drag.specs.Depth.{depthOfReference, depthOfTransonic}
+use Rattle.nose_drag.proofs.Cycle.{cone-reference, enough-for-reference, enough-for-method, kept-method}
 use Rattle.nose_drag.proofs.curve.PressureDragCurve.from_transonic.Reads as make
 use Rattle.nose_drag.proofs.curve.PressureDragCurve.from_transonic.Kinds as make-kinds
 use Rattle.nose_drag.proofs.curve.+PressureDragCurve-from_transonic+PressureDragCurve-value_and_slope+Reference-value_and_slope+Transonic-value_and_slope.Lts-PressureDragCurve-from_transonic as make-lts
@@ -48,20 +48,6 @@ use Rattle.nose_drag.proofs.curve.+PressureDragCurve-from_transonic+Pre
 abbrev made : Float → Float → Fit → Transonic → PressureDragCurve
 made rest ML fit t = record { shape = CurveShape.Step; «fineness_ratio» = 0·0; rest = rest; «mach_low» = ML; fit = fit; transonic = t }
 
--- the code's way to a cone reference, and the definition's
-whole-cone : (f factor rest M : Float) → curveAt (fromTransonic rest (Transonic.Cone (sinHalfAngle f) factor) 1·0) M ≡ wholeCone f factor rest M
-unfolding fromTransonic wholeCone
-whole-cone f factor rest M = refl
-
-cone-reference :
-    (self : Reference) (f factor rest M : Float) (cone : Transonic) (curve : PressureDragCurve) (r : ValueAndSlope) → self ≡ Reference.Cone f factor rest →
-    cone ≡ Transonic.Cone (sinHalfAngle f) factor → curve ≡ fromTransonic rest cone 1·0 → r ≡ curveAt curve M → r ≡ referenceAt self M
-cone-reference self f factor rest M cone curve r is-self is-cone is-curve is-r =
-    is-r
-    ∙ ap (λ (q : PressureDragCurve). curveAt q M) (is-curve ∙ ap (λ (t : Transonic). fromTransonic rest t 1·0) is-cone)
-    ∙ whole-cone f factor rest M
-    ∙ sym (ap (λ (q : Reference). referenceAt q M) is-self)
-
 -- `make`: the curve with the value at rest that goes with M_L
 made-at-zero :
     (rest ML : Float) (t : Transonic) (low : ValueAndSlope) (fit : Fit) → low ≡ methodAt t ML → (ML ≈ 0·0) ≡ true →
@@ -85,17 +71,6 @@ fitted-below curve M rise low is-rise = simp (low, is-rise)
 fitted-above : (curve : PressureDragCurve) (M : Float) (r : ValueAndSlope) → (M ≺ curve .«mach_low») ≡ false → r ≡ methodAt (curve .transonic) M → r ≡ curveAt curve M
 unfolding fitted
 fitted-above curve M r high is-r = simp high is-r
-
--- what a value that is known requires of the depth
-enough-for-reference : (q r : Reference) (d : ℕ) → q ≡ r → depthOfReference q ≤ d → depthOfReference r ≤ d
-enough-for-reference q r d e = subst (λ (q : Reference). depthOfReference q ≤ d) e
-
-enough-for-method : (q r : Transonic) (d : ℕ) → q ≡ r → depthOfTransonic q ≤ d → depthOfTransonic r ≤ d
-enough-for-method q r d e = subst (λ (q : Transonic). depthOfTransonic q ≤ d) e
-
-kept-method : (rest ML : Float) (curve : PressureDragCurve) (t : Transonic) → curve ≡ fromTransonic rest t ML → curve .transonic ≡ t
-unfolding fromTransonic
-kept-method rest ML curve t e = ap (λ (q : PressureDragCurve). q .transonic) e
 
 -- a reference and a method by their cases
 as-reference : (q r : Reference) (M : Float) (v : ValueAndSlope) → q ≡ r → v ≡ referenceAt r M → v ≡ referenceAt q M
