@@ -5,5 +5,8 @@ pub mod Root
 pub mod Powers
 pub mod Value
 pub mod Sizes
+pub mod Same
 pub mod Nearest
+pub mod Unique
+pub mod Floor
 pub mod Cases

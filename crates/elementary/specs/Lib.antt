@@ -6,4 +6,6 @@ pub mod Split
 pub mod Root
 pub mod Steps
 pub mod Tests
+pub mod Order
+pub mod Equal
 pub mod Nearest
