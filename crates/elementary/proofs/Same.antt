@@ -2,8 +2,8 @@
 -- number without a sign changes nothing.
 use mathlib.Core.Path.{_≡_, refl, sym, ap, _∙_, subst}
 use mathlib.Core.Bool.{Bool, true, false, not, cond}
-use Prim.Native.Nat.{ℕ, zero, suc, _+_, _-_, _*_, _/_, _^_, _≤_, _<_}
-use native.Mathlib.Nat.{mul-one, one-mul, zero-mul, zero-add, zero-div, mul-right-comm, lt-irrefl}
+use Prim.Native.Nat.{ℕ, zero, suc, _+_, _-_, _*_, _^_, _<_}
+use native.Mathlib.Nat.{mul-one, one-mul, zero-mul, zero-add, mul-right-comm, lt-irrefl}
 use lib.IntN.{ℤ, pos}
 use lib.Dec.{T, ltb, ltb→lt}
 use lib.Ieee.{Float, nan, inf, fin, binary64, up, down, odd, units, round, neg, sum, add, sub, mul, fits, ofBits}

@@ -1,6 +1,6 @@
 -- What `splitOf` gives is the number: significand × 2 ^ (digits - 1127). And its floor can be read off these parts.
 use mathlib.Core.Path.{_≡_, refl, sym, ap, _∙_, subst}
-use mathlib.Core.Bool.{Bool, true, false, cond}
+use mathlib.Core.Bool.{Bool, true, false}
 use Prim.Native.Nat.{ℕ, zero, suc, _+_, _-_, _*_, _/_, _%_, _^_, _≤_, _<_}
 use native.Mathlib.Nat.{mul-assoc, mul-comm, mul-left-comm, mul-right-comm, mul-one, one-mul, zero-mul, zero-div, zero-mod, mul-zero, add-mul, add-left-cancel, mul-div-cancel, div-add-mod', mod-lt, div-eq-of-lt, mod-eq-of-lt, mul-pos, mul-lt-mul-of-pos-right, lt-of-lt-of-le, lt-of-le-of-lt, le-of-eq, le-trans, mul-le-mul-right, le-of-mul-le-mul-right, eq-of-mul-eq-mul-right, eq-zero-or-pos, lt-irrefl}
 use mathlib.Core.Logic.{inl, inr}

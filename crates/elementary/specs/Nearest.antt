@@ -2,7 +2,7 @@
 -- Of two numbers y and z the root of x is nearer to y where the middle (y + z) / 2 lies on z's side of the root, that is, where (y + z)² compares with 4 x.
 -- In units x is X × 2 ^ -1074, and 4 x compares with (y + z)² as 4 X × 2 ^ 1074 with (Y + Z)².
 use mathlib.Core.Path.{_≡_}
-use mathlib.Core.Bool.{Bool, true, false}
+use mathlib.Core.Bool.{true, false}
 use Prim.Native.Nat.{ℕ, zero, suc, _+_, _*_, _^_, _<_}
 use lib.IntN.{ℤ}
 use lib.Dec.{T}

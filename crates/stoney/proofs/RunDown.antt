@@ -1,5 +1,5 @@
 -- "A table that starts at 1.2 .. run down to 0 at Mach 0.8": below its first point such a table is the straight line from drag 0 at Mach 0.8 to that point.
-use mathlib.Core.Path.{_≡_, refl, sym, ap, _∙_}
+use mathlib.Core.Path.{_≡_, _∙_}
 use lib.Dec.{T}
 use lib.Ieee.{Float, binary64, ofBits, toBits, fits, round, sum, neg, add, sub, mul, div, lt}
 use lib.Ieee.Bits.{is-true}

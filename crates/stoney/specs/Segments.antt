@@ -1,15 +1,15 @@
 -- Which part of a table holds a Mach number M, for every nose and every float: at its own points a table has its own drag, with the slope of the segment to the
 -- right; from a point on up to the next one the line between the two holds; from the last point on its drag is held, with slope 0; below the first point a table
--- that starts above Mach 0.8 is run down, and below Mach 0.8 every table is 0. The laws for all M rest on rising Machs (`nose-rises`).
+-- that starts above Mach 0.8 is run down (proofs/RunDown.antt), and below Mach 0.8 every table is 0. The laws for all M rest on rising Machs (`nose-rises`).
 use mathlib.Core.Path.{_≡_, refl, sym, ap, _∙_, subst}
 use mathlib.Core.Bool.{Bool, true, false, _&&_, cond}
 use mathlib.Core.List.{List, [], _∷_}
 use Prim.Native.Nat.{ℕ, zero, suc, _-_, _<_}
-use native.Mathlib.Nat.{le-of-suc-le-suc, le-of-lt, not-suc-le-zero, zero-lt-suc}
+use native.Mathlib.Nat.{le-of-suc-le-suc, le-of-lt, not-suc-le-zero}
 use native.Mathlib.Omega.{arith}
 use lib.Dec.{T}
 use lib.ListN.{length, getD}
-use lib.Ieee.{Float, binary64, ofBits, toBits, fits, round, sum, neg, add, sub, mul, div, lt}
+use lib.Ieee.{Float, nan, binary64, ofBits, toBits, fits, round, sum, neg, add, sub, mul, div, lt, eq, le}
 use lib.Ieee.Bits.{is-true}
 use lib.Ieee.Fits.{and-l, and-r}
 use lib.Ieee.Positive.{positive}
@@ -23,6 +23,67 @@ use Rattle.stoney.specs.declared.ValueAndSlope.{ValueAndSlope}
 use Rattle.stoney.specs.Tables.{noses}
 use Rattle.stoney.specs.Points.{Point, points, no-point, rangeOf, range-within, firstMach, every, holds-at, rises, nose-rises, tail-rises, positive-at, rises-at}
 use Rattle.stoney.specs.Lookup.{SUBSONIC-MACH-LIMIT, before, line, held, short-of, walk, lookup, valueAndSlope}
+
+-- ---- the points of a nose
+
+-- the k-th point from 0, and the last
+abbrev pub pointOf : StoneyNose → ℕ → Point
+pointOf nose k = getD (points nose) k no-point
+
+abbrev pub lastOf : StoneyNose → Point
+lastOf nose = pointOf nose (rangeOf nose .count - 1)
+
+pub count-is : (nose : StoneyNose) → length (points nose) ≡ rangeOf nose .count
+unfolding points
+count-is PowerQuarter = refl
+count-is PowerHalf = refl
+count-is PowerThreeQuarters = refl
+count-is ParabolaHalf = refl
+count-is ParabolaThreeQuarters = refl
+count-is Parabola = refl
+count-is Ellipsoid = refl
+count-is LvHaack = refl
+count-is VonKarman = refl
+
+-- ---- "at a tabled Mach": the point's own drag, with the slope of the segment to its right, and 0 at the last point
+
+abbrev answers : StoneyNose → Point → Float → Bool
+answers nose p slope = same (valueAndSlope nose (p .mach) .value) (p .drag) && same (valueAndSlope nose (p .mach) .slope) slope
+
+abbrev to-the-right : StoneyNose → List Point → Bool
+to-the-right nose [] = true
+to-the-right nose (p ∷ []) = answers nose p 0·0
+to-the-right nose (p ∷ q ∷ rest) = answers nose p ((q .drag ⊖ p .drag) ⊘ (q .mach ⊖ p .mach)) && to-the-right nose (q ∷ rest)
+
+-- by computing, at all 149 points
+all-to-the-right : T (every (λ nose. to-the-right nose (points nose)) noses)
+unfolding valueAndSlope lookup walk before line points ofBits toBits fits round sum neg add sub mul div lt eq le
+all-to-the-right = tt
+
+module _ (nose : StoneyNose) where
+  answer-is : (p : Point) (slope : Float) → T (answers nose p slope) → valueAndSlope nose (p .mach) ≡ record { value = p .drag; slope = slope }
+  answer-is p slope t =
+      let a = valueAndSlope nose (p .mach) in
+      let v : a .value ≡ p .drag = same-is (a .value) (p .drag) (and-l (same (a .value) (p .drag)) (same (a .slope) slope) t) in
+      let s : a .slope ≡ slope = same-is (a .slope) slope (and-r (same (a .value) (p .drag)) (same (a .slope) slope) t) in
+      λ i. record { value = v i; slope = s i }
+
+  in-list : (ps : List Point) (k : ℕ) → T (to-the-right nose ps) → suc k < length ps →
+      let p = getD ps k no-point in
+      let q = getD ps (suc k) no-point in
+      valueAndSlope nose (p .mach) ≡ record { value = p .drag; slope = (q .drag ⊖ p .drag) ⊘ (q .mach ⊖ p .mach) }
+  in-list [] k t h = absurd (not-suc-le-zero h)
+  in-list (p ∷ []) k t h = absurd (not-suc-le-zero (le-of-suc-le-suc h))
+  in-list (p ∷ q ∷ rest) zero t h = let slope = (q .drag ⊖ p .drag) ⊘ (q .mach ⊖ p .mach) in answer-is p slope (and-l (answers nose p slope) (to-the-right nose (q ∷ rest)) t)
+  in-list (p ∷ q ∷ rest) (suc k) t h =
+      in-list (q ∷ rest) k (and-r (answers nose p ((q .drag ⊖ p .drag) ⊘ (q .mach ⊖ p .mach))) (to-the-right nose (q ∷ rest)) t) (le-of-suc-le-suc h)
+
+  pub at-point : (k : ℕ) → suc k < rangeOf nose .count →
+      let p = pointOf nose k in
+      let q = pointOf nose (suc k) in
+      valueAndSlope nose (p .mach) ≡ record { value = p .drag; slope = (q .drag ⊖ p .drag) ⊘ (q .mach ⊖ p .mach) }
+  at-point k h =
+      in-list (points nose) k (holds-at (λ nose. to-the-right nose (points nose)) all-to-the-right nose) (subst (λ (n : ℕ). suc k < n) (sym (count-is nose)) h)
 
 -- ---- a walk through rising points
 
@@ -80,25 +141,6 @@ module _ (M : Float) where
 
 -- ---- the noses
 
--- the k-th point from 0, and the last
-abbrev pub pointOf : StoneyNose → ℕ → Point
-pointOf nose k = getD (points nose) k no-point
-
-abbrev pub lastOf : StoneyNose → Point
-lastOf nose = pointOf nose (rangeOf nose .count - 1)
-
-pub count-is : (nose : StoneyNose) → length (points nose) ≡ rangeOf nose .count
-unfolding points
-count-is PowerQuarter = refl
-count-is PowerHalf = refl
-count-is PowerThreeQuarters = refl
-count-is ParabolaHalf = refl
-count-is ParabolaThreeQuarters = refl
-count-is Parabola = refl
-count-is Ellipsoid = refl
-count-is LvHaack = refl
-count-is VonKarman = refl
-
 -- from a point on, and below the next one: the line between the two
 pub on-segment : (nose : StoneyNose) (M : Float) (k : ℕ) → suc k < rangeOf nose .count → T (pointOf nose k .mach ≼ M) → T (M ≺ pointOf nose (suc k) .mach)
     → valueAndSlope nose M ≡ line (pointOf nose k) (pointOf nose (suc k)) M
@@ -110,45 +152,27 @@ pub past-last-point : (nose : StoneyNose) (M : Float) → T (lastOf nose .mach �
 unfolding valueAndSlope
 past-last-point nose M l = past M (points nose) (rangeOf nose .count - 1) (nose-rises nose) (omega (arith, count-is nose, range-within nose .0)) l
 
-pub below-first : (nose : StoneyNose) (M : Float) → T (M ≺ firstMach nose) → valueAndSlope nose M ≡ before (pointOf nose 0) M
-unfolding valueAndSlope
-below-first nose M u = before-all M (points nose) (omega (arith, count-is nose, range-within nose .0)) u
-
--- ---- "at a tabled Mach": the point's own drag, with the slope of the segment to its right
-
--- each line starts at the drag of the point that it starts from
-abbrev keeps : List Point → Bool
-keeps [] = true
-keeps (p ∷ []) = true
-keeps (p ∷ q ∷ rest) = same (line p q (p .mach) .value) (p .drag) && keeps (q ∷ rest)
-
-all-keep : T (every (λ nose. keeps (points nose)) noses)
-unfolding points line ofBits round sum neg add sub mul div fits toBits
-all-keep = tt
-
-keeps-at : (ps : List Point) (k : ℕ) → T (keeps ps) → suc k < length ps
-    → let p = getD ps k no-point in line p (getD ps (suc k) no-point) (p .mach) .value ≡ p .drag
-keeps-at [] k t h = absurd (not-suc-le-zero h)
-keeps-at (p ∷ []) k t h = absurd (not-suc-le-zero (le-of-suc-le-suc h))
-keeps-at (p ∷ q ∷ rest) zero t h = same-is (line p q (p .mach) .value) (p .drag) (and-l (same (line p q (p .mach) .value) (p .drag)) (keeps (q ∷ rest)) t)
-keeps-at (p ∷ q ∷ rest) (suc k) t h = keeps-at (q ∷ rest) k (and-r (same (line p q (p .mach) .value) (p .drag)) (keeps (q ∷ rest)) t) (le-of-suc-le-suc h)
-
-pub at-point : (nose : StoneyNose) (k : ℕ) → suc k < rangeOf nose .count →
-    let p = pointOf nose k in
-    let q = pointOf nose (suc k) in
-    valueAndSlope nose (p .mach) ≡ record { value = p .drag; slope = (q .drag ⊖ p .drag) ⊘ (q .mach ⊖ p .mach) }
-unfolding line
-at-point nose k h =
-    let p = pointOf nose k in
-    let q = pointOf nose (suc k) in
-    let n : suc k < length (points nose) = subst (λ (n : ℕ). suc k < n) (sym (count-is nose)) h in
-    on-segment nose (p .mach) k h (itself (p .mach) (positive-at (points nose) k (nose-rises nose) (le-of-lt n))) (rises-at (points nose) k (nose-rises nose) n)
-    ∙ rw (keeps-at (points nose) k (holds-at (λ nose. keeps (points nose)) all-keep nose) n)
-
-pub at-last-point : (nose : StoneyNose) → valueAndSlope nose (lastOf nose .mach) ≡ record { value = lastOf nose .drag; slope = 0·0 }
+pub at-last-point : (nose : StoneyNose) → valueAndSlope nose (lastOf nose .mach) ≡ held (lastOf nose)
 at-last-point nose =
     past-last-point nose (lastOf nose .mach)
     (itself (lastOf nose .mach) (positive-at (points nose) (rangeOf nose .count - 1) (nose-rises nose) (omega (arith, count-is nose, range-within nose .0))))
+
+-- a NaN is held too: it has no point above it
+pub at-nan : (nose : StoneyNose) → valueAndSlope nose nan ≡ held (lastOf nose)
+unfolding valueAndSlope lookup walk points lt
+at-nan PowerQuarter = refl
+at-nan PowerHalf = refl
+at-nan PowerThreeQuarters = refl
+at-nan ParabolaHalf = refl
+at-nan ParabolaThreeQuarters = refl
+at-nan Parabola = refl
+at-nan Ellipsoid = refl
+at-nan LvHaack = refl
+at-nan VonKarman = refl
+
+pub below-first : (nose : StoneyNose) (M : Float) → T (M ≺ firstMach nose) → valueAndSlope nose M ≡ before (pointOf nose 0) M
+unfolding valueAndSlope
+below-first nose M u = before-all M (points nose) (omega (arith, count-is nose, range-within nose .0)) u
 
 -- ---- below the first point
 

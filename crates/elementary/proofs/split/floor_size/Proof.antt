@@ -1,6 +1,5 @@
 -- `elementary::split::floor_size` meets its contract.
 use mathlib.Core.Path.{_≡_}
-use mathlib.Core.Bool.{cond}
 use Prim.Native.Nat.{_-_, _^_}
 use native.Mathlib.Nat.{div-le-self, lt-of-lt-of-le}
 use native.Mathlib.Omega.{arith}
