@@ -7,6 +7,7 @@ use mathlib.Core.List.{List, [], _∷_}
 use Prim.Native.Nat.{ℕ, zero, suc, _-_, _<_}
 use native.Mathlib.Nat.{le-of-suc-le-suc, le-of-lt, not-suc-le-zero}
 use native.Mathlib.Omega.{arith}
+use lib.IntN.{negsuc}
 use lib.Dec.{T}
 use lib.ListN.{length, getD}
 use lib.Ieee.{Float, nan, binary64, ofBits, toBits, fits, round, sum, neg, add, sub, mul, div, lt, eq, le}
@@ -15,6 +16,8 @@ use lib.Ieee.Fits.{and-l, and-r}
 use lib.Ieee.Positive.{positive}
 use Rattle.elementary.specs.Arithmetic.{_⊖_, _⊘_, _≺_, _≼_}
 use Rattle.elementary.specs.Constants.{0·0, 0·8}
+use Rattle.elementary.specs.Split.{two^}
+use Rattle.elementary.specs.Tests.{between}
 use Rattle.elementary.specs.Equal.{same, same-is}
 use Rattle.elementary.specs.Order.{itself, not-above, not-at-most, lt-le, le-through, lt-through}
 use Rattle.stoney.specs.declared.StoneyNose.{StoneyNose}
@@ -85,6 +88,20 @@ module _ (nose : StoneyNose) where
   at-point k h =
       in-list (points nose) k (holds-at (λ nose. to-the-right nose (points nose)) all-to-the-right nose) (subst (λ (n : ℕ). suc k < n) (sym (count-is nose)) h)
 
+-- ---- a segment runs from its point to the next one: at the next point's Mach it has that point's drag, to 2 ^ -58
+
+abbrev pub reaches : List Point → Bool
+reaches [] = true
+reaches (p ∷ []) = true
+reaches (p ∷ q ∷ rest) = between (neg (two^ (negsuc 57))) (line p q (q .mach) .value ⊖ q .drag) (two^ (negsuc 57)) && reaches (q ∷ rest)
+
+all-reach : T (every (λ nose. reaches (points nose)) noses)
+unfolding line points between ofBits round sum neg add sub mul div lt eq le
+all-reach = tt
+
+pub nose-reaches : (nose : StoneyNose) → T (reaches (points nose))
+nose-reaches nose = holds-at (λ nose. reaches (points nose)) all-reach nose
+
 -- ---- a walk through rising points
 
 module _ (M : Float) where
@@ -123,11 +140,11 @@ module _ (M : Float) where
       let n : suc k ≡ length (q ∷ rest) = omega arith in
       rw (passed q rest k (tail-rises p q rest t) (omega arith) l) (walk-past q rest k (tail-rises p q rest t) n l)
 
-  between : (ps : List Point) (k : ℕ) → T (rises ps) → suc k < length ps → T (getD ps k no-point .mach ≼ M) → T (M ≺ getD ps (suc k) no-point .mach)
+  in-between : (ps : List Point) (k : ℕ) → T (rises ps) → suc k < length ps → T (getD ps k no-point .mach ≼ M) → T (M ≺ getD ps (suc k) no-point .mach)
       → lookup ps M ≡ line (getD ps k no-point) (getD ps (suc k) no-point) M
   unfolding lookup
-  between [] k t h l u = absurd (not-suc-le-zero h)
-  between (p ∷ ps) k t h l u = rw (passed p ps k t (le-of-lt h) l) (walk-between p ps k t h l u)
+  in-between [] k t h l u = absurd (not-suc-le-zero h)
+  in-between (p ∷ ps) k t h l u = rw (passed p ps k t (le-of-lt h) l) (walk-between p ps k t h l u)
 
   past : (ps : List Point) (k : ℕ) → T (rises ps) → suc k ≡ length ps → T (getD ps k no-point .mach ≼ M) → lookup ps M ≡ held (getD ps k no-point)
   unfolding lookup
@@ -145,7 +162,7 @@ module _ (M : Float) where
 pub on-segment : (nose : StoneyNose) (M : Float) (k : ℕ) → suc k < rangeOf nose .count → T (pointOf nose k .mach ≼ M) → T (M ≺ pointOf nose (suc k) .mach)
     → valueAndSlope nose M ≡ line (pointOf nose k) (pointOf nose (suc k)) M
 unfolding valueAndSlope
-on-segment nose M k h l u = between M (points nose) k (nose-rises nose) (subst (λ (n : ℕ). suc k < n) (sym (count-is nose)) h) l u
+on-segment nose M k h l u = in-between M (points nose) k (nose-rises nose) (subst (λ (n : ℕ). suc k < n) (sym (count-is nose)) h) l u
 
 -- from the last point on, +infinity included: its drag, with slope 0
 pub past-last-point : (nose : StoneyNose) (M : Float) → T (lastOf nose .mach ≼ M) → valueAndSlope nose M ≡ held (lastOf nose)
