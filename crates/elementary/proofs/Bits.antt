@@ -128,10 +128,10 @@ in-units m e h =
 -- ---- the two ways to take a number apart agree
 
 -- n units, by the bits: `toBits`
-abbrev bitsOf : Bool → ℕ → ℕ
+abbrev pub bitsOf : Bool → ℕ → ℕ
 bitsOf s n = cond s (2 ^ 63) 0 + (size n - 53) * 2 ^ 52 + n / 2 ^ (size n - 53)
 
-to-bits : (s : Bool) (m : ℕ) (e : ℤ) → toBits binary64 (fin s m e) ≡ bitsOf s (units m e)
+pub to-bits : (s : Bool) (m : ℕ) (e : ℤ) → toBits binary64 (fin s m e) ≡ bitsOf s (units m e)
 unfolding toBits
 to-bits s m e = refl
 

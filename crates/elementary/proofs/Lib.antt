@@ -6,5 +6,8 @@ pub mod Powers
 pub mod Value
 pub mod Sizes
 pub mod Bounds
+pub mod Same
 pub mod Nearest
+pub mod Unique
+pub mod Floor
 pub mod Cases

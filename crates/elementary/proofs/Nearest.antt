@@ -1,5 +1,4 @@
--- SQRT is the nearest binary64 number to the exact root, for every finite x above zero, subnormal ones included; of +0, -0 and +infinity it is the number itself,
--- and of a NaN and a negative number a NaN. With r the whole number that `nearestRoot` finds for s = w × 2 ^ 52 and u the root's last place, x is s × u², the root is r × u, and
+-- SQRT is the nearest binary64 number to the exact root, for every finite x above zero, subnormal ones included. With r the whole number that `nearestRoot` finds for s = w × 2 ^ 52 and u the root's last place, x is s × u², the root is r × u, and
 -- every other binary64 number from 2 ^ 52 × u up is a multiple of u.
 use mathlib.Core.Path.{_≡_, refl, sym, ap, _∙_, subst, subst₂}
 use mathlib.Core.Logic.{inl, inr}
@@ -311,15 +310,3 @@ module _ (m : ℕ) (e : ℤ) (h : T (fits binary64 (fin false (suc m) e))) where
 pub sqrt-nearest : (m : ℕ) (e : ℤ) → T (fits binary64 (fin false (suc m) e)) → NearestRoot (fin false (suc m) e) (SQRT (fin false (suc m) e))
 unfolding SQRT splitOf sqrtSteps
 sqrt-nearest m e h = nearest m e h
-
--- ---- the other numbers
-
--- of +0, -0 and +infinity SQRT is the number itself
-pub sqrt-itself : (s : Bool) → (SQRT (fin s 0 (pos 0)) ≡ fin s 0 (pos 0)) × (SQRT (inf false) ≡ inf false)
-unfolding SQRT splitOf
-sqrt-itself s = (refl, refl)
-
--- of a NaN, and of any number below zero, it is a NaN
-pub sqrt-nan : (m : ℕ) (e : ℤ) → (SQRT nan ≡ nan) × (SQRT (inf true) ≡ nan) × (SQRT (fin true (suc m) e) ≡ nan)
-unfolding SQRT splitOf
-sqrt-nan m e = (refl, refl, refl)

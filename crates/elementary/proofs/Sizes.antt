@@ -94,16 +94,18 @@ half-more-within (fin s m e) n h w =
     sum-within s false (m * up e * 2) (1 * 1 * z) (z * 2) (n + 1) (mul-pos (down-pos e) (lit< tt)) h (rw r (omega arith))
 
 -- ---- the floor of x is at most one more than x in size
-size-le-more : (s t : Bool) (q n : ℕ) → q ≤ n → cond s (cond t q (q + 1)) q ≤ n + 1
-size-le-more true true q n h = omega arith
-size-le-more true false q n h = omega arith
-size-le-more false t q n h = omega arith
+size-le-more : (s t : Bool) (q r n : ℕ) → q ≤ n → r ≤ n + 1 → cond s (cond t q r) q ≤ n + 1
+size-le-more true true q r n h k = omega arith
+size-le-more true false q r n h k = k
+size-le-more false t q r n h k = omega arith
 
 pub floor-within : (x : Float) (n : ℕ) → Within n x → floorOf x .size ≤ n + 1
 unfolding floorOf
 floor-within nan n w = absurd w
 floor-within (inf s) n w = absurd w
-floor-within (fin s m e) n w = size-le-more s (eqb (m * up e % down e) 0) (m * up e / down e) n (div-le-of-le-mul (down e) (le-trans w (le-of-eq (mul-comm n (down e)))))
+floor-within (fin s m e) n w =
+    let h = div-le-of-le-mul (down e) (le-trans w (le-of-eq (mul-comm n (down e)))) in
+    size-le-more s (eqb (m * up e % down e) 0) (m * up e / down e) _ n h (omega (arith, h))
 
 pub within-more : (x : Float) (n k : ℕ) → n ≤ k → Within n x → Within k x
 within-more nan n k h w = w

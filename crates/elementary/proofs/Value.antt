@@ -1,6 +1,6 @@
 -- What `splitOf` gives is the number: significand × 2 ^ (digits - 1127). And its floor can be read off these parts.
 use mathlib.Core.Path.{_≡_, refl, sym, ap, _∙_, subst}
-use mathlib.Core.Bool.{Bool, true, false, cond}
+use mathlib.Core.Bool.{Bool, true, false}
 use Prim.Native.Nat.{ℕ, zero, suc, _+_, _-_, _*_, _/_, _%_, _^_, _≤_, _<_}
 use native.Mathlib.Nat.{mul-assoc, mul-comm, mul-left-comm, mul-right-comm, mul-one, one-mul, zero-mul, zero-div, zero-mod, mul-zero, add-mul, add-left-cancel, mul-div-cancel, div-add-mod', mod-lt, div-eq-of-lt, mod-eq-of-lt, mul-pos, mul-lt-mul-of-pos-right, lt-of-lt-of-le, lt-of-le-of-lt, le-of-eq, le-trans, mul-le-mul-right, le-of-mul-le-mul-right, eq-of-mul-eq-mul-right, eq-zero-or-pos, lt-irrefl}
 use mathlib.Core.Logic.{inl, inr}
@@ -96,8 +96,8 @@ floor-parts s m e {t} {g} {d} h p l =
     mul-assoc a (2 ^ k) (2 ^ d) ∙ ap (λ (z : ℕ). a * z) (sym (pow-add 2 k d) ∙ ap (λ (z : ℕ). 2 ^ z) (back 1127 d (omega arith))) ∙ split-value s m e h p ∙ mul-right-comm g (2 ^ d) (down e) in
     same-floor s a (down e) g (2 ^ k) (down-pos e) (pow-pos k) (eq-of-mul-eq-mul-right (2 ^ d) (pow-pos d) (a * 2 ^ k) (g * down e) v)
 
--- below 1 the whole part is 0, and what is left is not
-pub floor-below-one : (s : Bool) (g b : ℕ) → 0 < g → g < b → floorSize s g b ≡ cond s 1 0
+-- below 1 the whole part is 0, and what is left is not, as of one half
+pub floor-below-one : (s : Bool) (g b : ℕ) → 0 < g → g < b → floorSize s g b ≡ floorSize s 1 2
 floor-below-one s g b p h = rw (div-eq-of-lt h, mod-eq-of-lt h, ne-eqb g 0 (λ (z : g ≡ 0). omega arith))
 
 -- 1 << k
@@ -111,7 +111,7 @@ floorParts (Infinite s) = record { negative = false; size = 0 }
 floorParts (Zero s) = record { negative = s; size = 0 }
 floorParts (Finite s g d) = record { negative = s; size = floorSize s g (2 ^ (1127 - d)) }
 
-no-size : (s : Bool) → cond s (cond (eqb 0 0) 0 (0 + 1)) 0 ≡ 0
+no-size : (s : Bool) → floorSize s 0 1 ≡ 0
 no-size true = refl
 no-size false = refl
 

@@ -1,9 +1,11 @@
--- The definitions of the crate `elementary`: the notation, the constants, a float taken apart, the fixed steps (docs/REFERENCE.md, Fixed steps), and tests on
--- floats.
+-- The definitions of the crate `elementary`: the notation, the constants, a float taken apart, the fixed steps (docs/REFERENCE.md, Fixed steps), tests on
+-- floats, their order, when two are one, and what a root is.
 pub mod Arithmetic
 pub mod Constants
 pub mod Split
 pub mod Root
 pub mod Steps
 pub mod Tests
+pub mod Order
+pub mod Equal
 pub mod Nearest

@@ -1,6 +1,7 @@
 -- A float taken apart, in the one place where that is done. A finite x other than zero is significand × 2 ^ (digits - 1127), with a sign:
 -- the significand has 53 binary digits, its highest one set, subnormal numbers included, and `digits` is how many binary digits x has
 -- as a whole number of binary64's smallest positive number, 2 ^ -1074. So x = m × 2 ^ e with 1 ≤ m < 2 for m = significand / 2 ^ 52 and e = digits - 1075.
+use mathlib.Core.Path.{_≡_}
 use mathlib.Core.Bool.{Bool, true, false, cond}
 use Prim.Native.Nat.{ℕ, zero, suc, _+_, _*_, _/_, _%_, _^_, _≤_, _<_}
 use lib.IntN.{ℤ, pos, negℤ}
@@ -55,6 +56,11 @@ unfoldable pub floorOf : Float → Whole
 floorOf nan = record { negative = false; size = 0 }
 floorOf (inf s) = record { negative = false; size = 0 }
 floorOf (fin s m e) = record { negative = s; size = floorSize s (m * up e) (down e) }
+
+-- k is the greatest whole number that is at most ±a / b: k ≤ ±a / b < k + 1
+abbrev pub Greatest : Bool → ℕ → ℕ → Whole → Type 0
+Greatest false a b k = (k .negative ≡ false) × (k .size * b ≤ a) × (a < (k .size + 1) * b)
+Greatest true a b k = (k .negative ≡ true) × (a ≤ k .size * b) × (k .size * b < a + b)
 
 -- x is finite, and at most n in size
 abbrev pub Within : ℕ → Float → Type 0

@@ -1,9 +1,11 @@
--- The shape byte of a part card (docs/REFERENCE.md, Cards): "0 conical, 1 ogive, 2 elliptical, 3 power, 4 parabolic, 5 Haack".
-use mathlib.Core.Bool.{cond}
+-- The shape byte of a part card, and the two shapes that have names (docs/REFERENCE.md, Cards and Modules): "0 conical, 1 ogive, 2 elliptical, 3 power, 4 parabolic, 5 Haack".
+use mathlib.Core.Path.{_≡_, refl}
+use mathlib.Core.Bool.{false, cond}
 use Prim.Native.Nat.{ℕ}
 use lib.Dec.{eqb}
-use lib.Ieee.{Float}
-use Rattle.elementary.specs.Constants.{0·0}
+use lib.Ieee.{Float, binary64, round, ofBits, ofInt, div}
+use Rattle.elementary.specs.Arithmetic.{_⊘_, whole, bits}
+use Rattle.elementary.specs.Constants.{0·0, 1·0}
 use Rattle.shapes.specs.declared.NoseShape.{NoseShape}
 use Rattle.shapes.specs.declared.NoseShape.the-variants.{Conical, Ogive, Elliptical, PowerSeries, ParabolicSeries, Haack}
 
@@ -33,3 +35,20 @@ parameterOf Elliptical = 0·0
 parameterOf (PowerSeries exponent) = exponent
 parameterOf (ParabolicSeries parameter) = parameter
 parameterOf (Haack parameter) = parameter
+
+-- ---- "`VON_KARMAN`, `LV_HAACK` as constants of the type": Haack's series with C = 0 and with C = 1/3
+
+abbrev pub von-karman : NoseShape
+von-karman = Haack 0·0
+
+abbrev pub lv-haack : NoseShape
+lv-haack = Haack (1·0 ⊘ whole 3)
+
+-- C = 1/3 is the binary64 number nearest to it, by its bits
+pub third : (parameterOf lv-haack ≡ round binary64 false 1 3) × (parameterOf lv-haack ≡ bits 0x3fd5_5555_5555_5555)
+unfolding div ofInt round ofBits
+third = (refl, refl)
+
+-- both have the shape byte of Haack's series
+pub both-haack : (numberOfShape von-karman ≡ 5) × (numberOfShape lv-haack ≡ 5)
+both-haack = (refl, refl)

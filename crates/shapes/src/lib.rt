@@ -1,7 +1,7 @@
 // The shape of a nose cone (shapes.rs), with the shapes' numbers (docs/REFERENCE.md, Nose formulas). Nothing
 // else of shapes.rs is here.
 ghost use mathlib.Core.Path.{_≡_};
-ghost use Rattle.shapes.specs.Numbers.{numberOfShape, shapeOf, parameterOf};
+ghost use Rattle.shapes.specs.Numbers.{numberOfShape, shapeOf, parameterOf, von-karman, lv-haack};
 
 pub enum NoseShape {
     // A straight cone.
@@ -24,6 +24,19 @@ impl NoseShape {
     pub const LV_HAACK: NoseShape = NoseShape::Haack {
         parameter: 1.0 / 3.0,
     };
+
+    // The two constants, so that a contract says what they are.
+    pub fn von_karman() -> NoseShape
+        ensures { λ r. ⌜ r ≡ von-karman ⌝ }
+    {
+        NoseShape::VON_KARMAN
+    }
+
+    pub fn lv_haack() -> NoseShape
+        ensures { λ r. ⌜ r ≡ lv-haack ⌝ }
+    {
+        NoseShape::LV_HAACK
+    }
 
     // The shape byte of a part card, 0 to 5.
     pub fn number(self) -> u8

@@ -1,6 +1,6 @@
 -- What a table says at a Mach number M: the value and its slope. The points are walked from the first to the first one above M; the segment that ends there
 -- holds M, so that a tabled Mach takes the segment to its right. nose_drag.rs, `StoneyNose::value_and_slope`, with its order of operations.
-use mathlib.Core.Bool.{cond}
+use mathlib.Core.Bool.{Bool, cond}
 use mathlib.Core.List.{List, [], _∷_}
 use lib.Ieee.{Float}
 use Rattle.elementary.specs.Arithmetic.{_⊕_, _⊖_, _⊗_, _⊘_, _≺_, _≼_, bits}
@@ -33,17 +33,21 @@ line p q M =
 abbrev pub held : Point → ValueAndSlope
 held last = record { value = last .drag; slope = bits 0 }
 
+-- M is below the point q, so that the segment that ends at q holds it
+abbrev pub short-of : Float → Point → Bool
+short-of M q = M ≺ q .mach
+
 -- from p on, which is at or below M, through the points that are left. A NaN has no point above it and is held.
 unfoldable pub walk : Point → List Point → Float → ValueAndSlope
 unfolding line
 walk p [] M = held p
-walk p (q ∷ rest) M = cond (M ≺ q .mach) (line p q M) (walk q rest M)
+walk p (q ∷ rest) M = cond (short-of M q) (line p q M) (walk q rest M)
 
 -- (no table is empty)
 unfoldable pub lookup : List Point → Float → ValueAndSlope
 unfolding before walk
 lookup [] M = held no-point
-lookup (first ∷ rest) M = cond (M ≺ first .mach) (before first M) (walk first rest M)
+lookup (first ∷ rest) M = cond (short-of M first) (before first M) (walk first rest M)
 
 unfoldable pub valueAndSlope : StoneyNose → Float → ValueAndSlope
 unfolding lookup points

@@ -106,40 +106,39 @@ rises [] = true
 rises (p ∷ []) = positive (p .mach)
 rises (p ∷ q ∷ rest) = positive (p .mach) && (p .mach ≺ q .mach && rises (q ∷ rest))
 
-abbrev every-nose-rises : List StoneyNose → Bool
-every-nose-rises [] = true
-every-nose-rises (nose ∷ rest) = rises (points nose) && every-nose-rises rest
+-- a test of every nose
+abbrev pub every : (StoneyNose → Bool) → List StoneyNose → Bool
+every test [] = true
+every test (nose ∷ rest) = test nose && every test rest
 
-pub all-rise : T (every-nose-rises noses)
+module _ (test : StoneyNose → Bool) where
+  rest-holds : (k : ℕ) (all : List StoneyNose) → T (every test all) → T (every test (drop k all))
+  rest-holds zero all t = t
+  rest-holds (suc k) [] t = tt
+  rest-holds (suc k) (nose ∷ rest) t = rest-holds k rest (and-r (test nose) (every test rest) t)
+
+  first-holds : (nose : StoneyNose) (rest : List StoneyNose) → T (every test (nose ∷ rest)) → T (test nose)
+  first-holds nose rest = and-l (test nose) (every test rest)
+
+  pub holds-at : T (every test noses) → (nose : StoneyNose) → T (test nose)
+  holds-at t PowerQuarter = first-holds _ (drop 1 noses) (rest-holds 0 noses t)
+  holds-at t PowerHalf = first-holds _ (drop 2 noses) (rest-holds 1 noses t)
+  holds-at t PowerThreeQuarters = first-holds _ (drop 3 noses) (rest-holds 2 noses t)
+  holds-at t ParabolaHalf = first-holds _ (drop 4 noses) (rest-holds 3 noses t)
+  holds-at t ParabolaThreeQuarters = first-holds _ (drop 5 noses) (rest-holds 4 noses t)
+  holds-at t Parabola = first-holds _ (drop 6 noses) (rest-holds 5 noses t)
+  holds-at t Ellipsoid = first-holds _ (drop 7 noses) (rest-holds 6 noses t)
+  holds-at t LvHaack = first-holds _ (drop 8 noses) (rest-holds 7 noses t)
+  holds-at t VonKarman = first-holds _ (drop 9 noses) (rest-holds 8 noses t)
+
+pub all-rise : T (every (λ nose. rises (points nose)) noses)
 unfolding points round lt
 all-rise = tt
 
-holds-at-first : (nose : StoneyNose) (rest : List StoneyNose) → T (every-nose-rises (nose ∷ rest)) → T (rises (points nose))
-holds-at-first nose rest = and-l (rises (points nose)) (every-nose-rises rest)
-
-holds-at-rest : (nose : StoneyNose) (rest : List StoneyNose) → T (every-nose-rises (nose ∷ rest)) → T (every-nose-rises rest)
-holds-at-rest nose rest = and-r (rises (points nose)) (every-nose-rises rest)
-
-abbrev from : ℕ → List StoneyNose
-from k = drop k noses
-
-rest-rises : (k : ℕ) (all : List StoneyNose) → T (every-nose-rises all) → T (every-nose-rises (drop k all))
-rest-rises zero all t = t
-rest-rises (suc k) [] t = tt
-rest-rises (suc k) (nose ∷ rest) t = rest-rises k rest (holds-at-rest nose rest t)
-
 pub nose-rises : (nose : StoneyNose) → T (rises (points nose))
-nose-rises PowerQuarter = holds-at-first _ (from 1) (rest-rises 0 noses all-rise)
-nose-rises PowerHalf = holds-at-first _ (from 2) (rest-rises 1 noses all-rise)
-nose-rises PowerThreeQuarters = holds-at-first _ (from 3) (rest-rises 2 noses all-rise)
-nose-rises ParabolaHalf = holds-at-first _ (from 4) (rest-rises 3 noses all-rise)
-nose-rises ParabolaThreeQuarters = holds-at-first _ (from 5) (rest-rises 4 noses all-rise)
-nose-rises Parabola = holds-at-first _ (from 6) (rest-rises 5 noses all-rise)
-nose-rises Ellipsoid = holds-at-first _ (from 7) (rest-rises 6 noses all-rise)
-nose-rises LvHaack = holds-at-first _ (from 8) (rest-rises 7 noses all-rise)
-nose-rises VonKarman = holds-at-first _ (from 9) (rest-rises 8 noses all-rise)
+nose-rises nose = holds-at (λ nose. rises (points nose)) all-rise nose
 
-tail-rises : (p q : Point) (rest : List Point) → T (rises (p ∷ q ∷ rest)) → T (rises (q ∷ rest))
+pub tail-rises : (p q : Point) (rest : List Point) → T (rises (p ∷ q ∷ rest)) → T (rises (q ∷ rest))
 tail-rises p q rest t = and-r (p .mach ≺ q .mach) (rises (q ∷ rest)) (and-r (positive (p .mach)) (p .mach ≺ q .mach && rises (q ∷ rest)) t)
 
 -- at each entry: the Mach there is positive, and below the next one's

@@ -7,11 +7,10 @@ use native.Mathlib.Nat.{not-suc-le-zero}
 use native.Mathlib.Omega.{arith}
 use lib.Ieee.{Float, nan}
 use lib.ListN.{length, getD, List·getD-map}
-use Rattle.elementary.specs.Arithmetic.{_≺_}
 use Rattle.stoney.specs.declared.StoneyNose.{StoneyNose}
 use Rattle.stoney.specs.declared.StoneyNose.the-variants.{PowerQuarter, PowerHalf, PowerThreeQuarters, ParabolaHalf, ParabolaThreeQuarters, Parabola, Ellipsoid, LvHaack, VonKarman}
 use Rattle.stoney.specs.Points.{Point, points, all-points, no-point, any-default, rangeOf}
-use Rattle.stoney.specs.Lookup.{before, line, held, walk, lookup}
+use Rattle.stoney.specs.Lookup.{before, line, held, short-of, walk, lookup}
 
 -- some points, all of them in the arrays
 pub record Stored (first count : ℕ) : Type 0 where
@@ -33,23 +32,23 @@ one-less n = omega arith
 -- ---- one step of the definition's walk
 
 module _ (machs drags : List Float) (M : Float) where
-  pub before-first : (first count : ℕ) → 0 < count → (M ≺ getD machs first nan) ≡ true → lookup (stretch machs drags first count) M ≡ before (pointIn machs drags first) M
+  pub before-first : (first count : ℕ) → 0 < count → short-of M (pointIn machs drags first) ≡ true → lookup (stretch machs drags first count) M ≡ before (pointIn machs drags first) M
   unfolding lookup stretch
   before-first first zero h t = absurd (not-suc-le-zero h)
   before-first first (suc more) h t = rw t
 
-  pub from-first : (first count : ℕ) → 0 < count → (M ≺ getD machs first nan) ≡ false
+  pub from-first : (first count : ℕ) → 0 < count → short-of M (pointIn machs drags first) ≡ false
       → lookup (stretch machs drags first count) M ≡ walk (pointIn machs drags first) (stretch machs drags (first + 1) (count - 1)) M
   unfolding lookup stretch
   from-first first zero h t = absurd (not-suc-le-zero h)
   from-first first (suc more) h t = rw (one-less more, t)
 
-  pub before-next : (p : Point) (place more : ℕ) → 0 < more → (M ≺ getD machs place nan) ≡ true → walk p (stretch machs drags place more) M ≡ line p (pointIn machs drags place) M
+  pub before-next : (p : Point) (place more : ℕ) → 0 < more → short-of M (pointIn machs drags place) ≡ true → walk p (stretch machs drags place more) M ≡ line p (pointIn machs drags place) M
   unfolding walk stretch
   before-next p place zero h t = absurd (not-suc-le-zero h)
   before-next p place (suc more) h t = rw t
 
-  pub from-next : (p : Point) (place more : ℕ) → 0 < more → (M ≺ getD machs place nan) ≡ false
+  pub from-next : (p : Point) (place more : ℕ) → 0 < more → short-of M (pointIn machs drags place) ≡ false
       → walk p (stretch machs drags place more) M ≡ walk (pointIn machs drags place) (stretch machs drags (place + 1) (more - 1)) M
   unfolding walk stretch
   from-next p place zero h t = absurd (not-suc-le-zero h)

@@ -9,11 +9,11 @@ use Rattle.elementary.proofs.sqrt.Tie as tie
 
 zero : tie.Need-returns-2
 unfolding SQRT ofBits neg
-zero c = rw (← c .before .before .before .before .positive-parts .ensures .0, c .before .before .negative .given .1, c .if1 .taken)
+zero c = simp (← c .before .before .before .before .positive-parts .ensures .0, c .before .before .negative .given .1, c .if1 .taken)
 
 zero-2 : tie.Need-returns-3
 unfolding SQRT ofBits neg
-zero-2 c = rw (← c .before .before .before .before .positive-parts .ensures .0, c .before .before .negative .given .1, c .if1 .left)
+zero-2 c = simp (← c .before .before .before .before .positive-parts .ensures .0, c .before .before .negative .given .1, c .if1 .left)
 
 pub sqrt-spec : {M : Type 1} → statement M
 unfolding SQRT

@@ -1,6 +1,5 @@
 -- `elementary::split::floor_size` meets its contract.
 use mathlib.Core.Path.{_≡_}
-use mathlib.Core.Bool.{cond}
 use Prim.Native.Nat.{_-_, _^_}
 use native.Mathlib.Nat.{div-le-self, lt-of-lt-of-le}
 use native.Mathlib.Omega.{arith}
@@ -13,7 +12,7 @@ use Rattle.elementary.proofs.split.floor_size.Statement.{statement}
 use Rattle.elementary.proofs.split.floor_size.Tie as tie
 
 -- with 1074 digits or fewer the number is below 1
-below-one : (c : tie.Then1) → let a = c .before .args in floorSize (a .negative) (a .significand) (2 ^ (1127 - a .digits)) ≡ cond (a .negative) 1 0
+below-one : (c : tie.Then1) → let a = c .before .args in floorSize (a .negative) (a .significand) (2 ^ (1127 - a .digits)) ≡ floorSize (a .negative) 1 2
 below-one c =
     let a = c .before .args in
     floor-below-one (a .negative) (a .significand) (2 ^ (1127 - a .digits)) (omega arith)
