@@ -7,6 +7,7 @@ pub mod Value
 pub mod Sizes
 pub mod Bounds
 pub mod Same
+pub mod ZeroWeight
 pub mod Nearest
 pub mod Unique
 pub mod Floor

@@ -3,9 +3,10 @@
 use mathlib.Core.Path.{_≡_, refl, sym, ap, _∙_, subst}
 use mathlib.Core.Bool.{Bool, true, false, not, cond}
 use Prim.Native.Nat.{ℕ, zero, suc, _+_, _-_, _*_, _^_, _<_}
-use native.Mathlib.Nat.{mul-one, one-mul, zero-mul, zero-add, mul-right-comm, lt-irrefl}
+use native.Mathlib.Nat.{mul-one, one-mul, zero-mul, zero-add, mul-right-comm, eq-of-mul-eq-mul-right, lt-irrefl}
 use lib.IntN.{ℤ, pos}
-use lib.Dec.{T, ltb, ltb→lt}
+use lib.Dec.{T, ltb, ltb→lt, lit<}
+use lib.Pow.{pow-pos}
 use lib.Ieee.{Float, nan, inf, fin, binary64, up, down, odd, units, round, neg, sum, add, sub, mul, fits, ofBits}
 use lib.Ieee.Bits.{ofBits-toBits}
 use lib.Ieee.Fits.{down-pos, round-is, round-fits}
@@ -42,13 +43,27 @@ pub zero-is : (s : Bool) (e : ℤ) → T (fits binary64 (fin s 0 e)) → fin s 0
 zero-is s e h = same-value s (fin s 0 e) 0 (pos 0) h (unfold fits in tt) (refl, ap (λ (k : ℕ). k * 1) (zero-mul (up e)) ∙ sym (zero-mul (down e)))
 
 -- what is held is not rounded
-pub round-held : (m : ℕ) (e : ℤ) → T (fits binary64 (fin false (suc m) e)) → round binary64 false (suc m * up e) (down e) ≡ fin false (suc m) e
-round-held m e h =
-    let c = held false m e h in
+pub round-held : (s : Bool) (m : ℕ) (e : ℤ) → T (fits binary64 (fin s (suc m) e)) → round binary64 s (suc m * up e) (down e) ≡ fin s (suc m) e
+round-held s m e h =
+    let c = held s m e h in
     let u = in-units m e c in
-    same-value false (round binary64 false (suc m * up e) (down e)) (suc m) e (round-fits binary64 false (suc m * up e) (down e)) h
-    (round-exact binary64 false (suc m * up e) (down e) (suc m) (u .exponent) (down-pos e) (c .narrow) (subst (λ (k : ℕ). k < 2 ^ 2098) (u .whole) (u .few))
+    same-value s (round binary64 s (suc m * up e) (down e)) (suc m) e (round-fits binary64 s (suc m * up e) (down e)) h
+    (round-exact binary64 s (suc m * up e) (down e) (suc m) (u .exponent) (down-pos e) (c .narrow) (subst (λ (k : ℕ). k < 2 ^ 2098) (u .whole) (u .few))
     (u .exact ∙ ap (λ (k : ℕ). k * down e) (u .whole)))
+
+-- and nothing is rounded to nothing
+pub round-nothing : (s : Bool) (c : ℕ) → 0 < c → round binary64 s 0 c ≡ fin s 0 (pos 0)
+round-nothing s c h =
+    same-value s (round binary64 s 0 c) 0 (pos 0) (round-fits binary64 s 0 c) (unfold fits in tt)
+    (rescaled (round binary64 s 0 c) (round-exact binary64 s 0 c 0 0 h (lit< tt) (pow-pos 2098) (zero-mul (2 ^ 1074) ∙ sym (zero-mul c))))
+  where
+    rescaled : (x : Float) → HasValue x s 0 c → HasValue x s 0 1
+    rescaled nan v = v
+    rescaled (inf t) v = v
+    rescaled (fin t m e) v =
+        let z : m * up e * c ≡ 0 = v .1 ∙ zero-mul (down e) in
+        let n : m * up e ≡ 0 = eq-of-mul-eq-mul-right c h (m * up e) 0 (z ∙ sym (zero-mul c)) in
+        (v .0, ap (λ (k : ℕ). k * 1) n ∙ sym (zero-mul (down e)))
 
 -- ---- numbers without a sign
 
@@ -119,4 +134,4 @@ zero-plus (fin true m e) h u = absurd u
 zero-plus (fin false zero e) h u = let z = zero-is false e h in ap (λ (x : Float). 0·0 ⊕ x) z ∙ two-zeros ∙ sym z
 zero-plus (fin false (suc m) e) h u =
     let a : 0 * 1 * down e + suc m * up e * 1 ≡ suc m * up e = simp (zero-mul, zero-add, mul-one) in
-    rw (opened (suc m) e, a, one-mul (down e)) (round-held m e h)
+    rw (opened (suc m) e, a, one-mul (down e)) (round-held false m e h)

@@ -25,15 +25,18 @@ use Rattle.drag.specs.Friction.{machChecked}
 use Rattle.drag.specs.Pressure.{jointPressureDragCoefficient}
 use Rattle.shapes.specs.declared.NoseShape.{NoseShape}
 use Rattle.shapes.specs.declared.NoseShape.the-variants.{PowerSeries, ParabolicSeries, Haack}
+use Rattle.stoney.specs.declared.StoneyNose.{StoneyNose}
 use Rattle.stoney.specs.declared.StoneyNose.the-variants.{PowerQuarter, PowerHalf, PowerThreeQuarters, ParabolaHalf, ParabolaThreeQuarters, Parabola, LvHaack, VonKarman}
-use Rattle.stoney.specs.declared.ValueAndSlope.{ValueAndSlope}
+use Rattle.stoney.specs.Lookup.{valueAndSlope}
 use Rattle.nose_drag.specs.declared.curve.Reference.{Reference}
 use Rattle.nose_drag.specs.declared.curve.Transonic.{Transonic}
 use Rattle.nose_drag.specs.declared.curve.PressureDragCurve.{PressureDragCurve}
 use Rattle.nose_drag.specs.declared.builder.Curve.{Curve}
-use Rattle.nose_drag.specs.Constants.{one-third}
+use Rattle.nose_drag.specs.Constants.{0·75, one-third}
+use Rattle.nose_drag.specs.Forms.{blunt}
 use Rattle.nose_drag.specs.Below.{fitted}
-use Rattle.nose_drag.specs.Methods.{referenceAt, scaled, methodAt, finenessExponent}
+use Rattle.nose_drag.specs.Weights.{0·625}
+use Rattle.nose_drag.specs.Methods.{referenceAt, scaled, finenessScaled, finenessExponent}
 use Rattle.nose_drag.specs.Curves.{CONE-3, coefficientOf, curveAt, fromTransonic, interpolated, stepCurve, powerBracket, parabolicBracket, weightOf, betweenReferences, power, parabolic, haack, shaped, build, recorded, newCurve, _then-curve_, _for-curve_, _for-built_}
 
 -- ---- the middle of every gap
@@ -49,15 +52,12 @@ abbrev references : Curve → Option (Reference × Reference × Float)
 references (Curve.Built curve) = methodReferences (curve .transonic)
 references (Curve.Refused e) = none
 
--- 1/8, 3/8, 5/8 and 7/8
+-- 1/8, 3/8 and 7/8; 5/8 is among the weights
 abbrev 0·125 : Float
 0·125 = bits 0x3fc0000000000000
 
 abbrev 0·375 : Float
 0·375 = bits 0x3fd8000000000000
-
-abbrev 0·625 : Float
-0·625 = bits 0x3fe4000000000000
 
 abbrev 0·875 : Float
 0·875 = bits 0x3fec000000000000
@@ -180,3 +180,19 @@ haack-between c = record { curve = λ f rest curve e. by (one-third ≺ c) f res
         → cond t (Curve.Refused (Broken HaackAboveThird)) (required (between 0·0 c one-third) HaackParameter c then-curve Curve.Built (own rest f)) ≡ Curve.Built curve → curve ≡ own rest f
     by true f rest curve e = none-built e
     by false f rest curve e = once-passed (required (between 0·0 c one-third) HaackParameter c) (own rest f) curve e
+
+-- ---- where Stoney measured a nose
+
+-- the shapes that he measured and that begin a gap: a power series at 1/4, 1/2 and 3/4, a parabolic one at 1/2 and 3/4, Haack's at 0
+pub data Measured : NoseShape → StoneyNose → Type 0 where
+  power-at-1/4 : Measured (PowerSeries 0·25) PowerQuarter
+  power-at-1/2 : Measured (PowerSeries 0·5) PowerHalf
+  parabolic-at-1/2 : Measured (ParabolicSeries 0·5) ParabolaHalf
+  parabolic-at-3/4 : Measured (ParabolicSeries 0·75) ParabolaThreeQuarters
+  haack-at-0 : Measured (Haack 0·0) VonKarman
+
+-- the number that the nose's own table gives at M under eq. B.9's scaling
+abbrev pub ownNumber : StoneyNose → Float → Float → Float
+ownNumber nose f M =
+    let c3 = valueAndSlope nose M .value in
+    cond (c3 ≼ 0·0) 0·0 (finenessScaled c3 (blunt M .value) (finenessExponent f))

@@ -57,11 +57,15 @@ referenceAt (Reference.Stoney nose) M = valueAndSlope nose M
 
 -- ---- methods
 
+-- from lo on, by the weight of hi
+abbrev pub mixed : Float → Float → Float → Float
+mixed lo hi weight = lo ⊕ weight ⊗ (hi ⊖ lo)
+
 -- the two references' values lo and hi at M, interpolated by the weight of the upper one and scaled by eq. B.9; no drag where nothing is left to scale
 unfoldable pub scaled : ValueAndSlope → ValueAndSlope → Float → Float → Float → ValueAndSlope
 scaled lo hi weight exponent M =
-    let c3 = lo .value ⊕ weight ⊗ (hi .value ⊖ lo .value) in
-    let c3-slope = lo .slope ⊕ weight ⊗ (hi .slope ⊖ lo .slope) in
+    let c3 = mixed (lo .value) (hi .value) weight in
+    let c3-slope = mixed (lo .slope) (hi .slope) weight in
     let c0 = blunt M in
     let c = finenessScaled c3 (c0 .value) exponent in
     cond (c3 ≼ 0·0)

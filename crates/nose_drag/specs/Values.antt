@@ -14,7 +14,7 @@ use Rattle.stoney.specs.declared.ValueAndSlope.{ValueAndSlope}
 use Rattle.nose_drag.specs.Constants.{2·1, CONE-SUPERSONIC-MACH}
 use Rattle.nose_drag.specs.Forms.{blunt, coneSupersonic, sinHalfAngle, coneMethod}
 use Rattle.nose_drag.specs.Below.{fitted}
-use Rattle.nose_drag.specs.Methods.{finenessScaled, scaled, wholeCone}
+use Rattle.nose_drag.specs.Methods.{finenessScaled, mixed, scaled, wholeCone}
 
 -- ---- the root of eq. B.4
 
@@ -40,7 +40,7 @@ value-of-cond false x y = refl
 -- eq. B.9 between two values lo and hi
 unfoldable pub scaledValue : Float → Float → Float → Float → Float → Float
 scaledValue lo hi weight exponent M =
-    let c3 = lo ⊕ weight ⊗ (hi ⊖ lo) in
+    let c3 = mixed lo hi weight in
     let c0 = 0·85 ⊗ stagnationRatio M in
     cond (c3 ≼ 0·0) 0·0 (finenessScaled c3 c0 exponent)
 

@@ -1,2 +1,3 @@
 -- The law of the two tables that are run down to Mach 0.8.
 pub mod RunDown
+pub mod Bounded

@@ -7,19 +7,16 @@ use Rattle.elementary.specs.Arithmetic.{_⊕_, _⊖_, _⊗_, _⊘_, _≼_}
 use Rattle.elementary.specs.Constants.{0·0, 1·0}
 use Rattle.stoney.specs.declared.ValueAndSlope.{ValueAndSlope}
 use Rattle.nose_drag.specs.Forms.{blunt}
-use Rattle.nose_drag.specs.Methods.{finenessScaled, scaled}
+use Rattle.nose_drag.specs.Methods.{finenessScaled, mixed, scaled}
 use Rattle.nose_drag.proofs.scaling.scaled.Statement.{statement}
 use Rattle.nose_drag.proofs.scaling.scaled.Tie as tie
-
-abbrev between : ValueAndSlope → ValueAndSlope → Float → Float
-between lo hi weight = lo .value ⊕ weight ⊗ (hi .value ⊖ lo .value)
 
 -- where something is left to scale
 with-drag :
     (lo hi : ValueAndSlope) (weight exponent M : Float) {c0 : ValueAndSlope} {c : Float} → c0 ≡ blunt M →
-    c ≡ finenessScaled (between lo hi weight) (c0 .value) exponent → (between lo hi weight ≼ 0·0) ≡ false →
+    c ≡ finenessScaled (mixed (lo .value) (hi .value) weight) (c0 .value) exponent → (mixed (lo .value) (hi .value) weight ≼ 0·0) ≡ false →
     _≡_ {A = ValueAndSlope}
-    (record { value = c; slope = c ⊗ ((1·0 ⊖ exponent) ⊗ c0 .slope ⊘ c0 .value ⊕ exponent ⊗ (lo .slope ⊕ weight ⊗ (hi .slope ⊖ lo .slope)) ⊘ between lo hi weight) })
+    (record { value = c; slope = c ⊗ ((1·0 ⊖ exponent) ⊗ c0 .slope ⊘ c0 .value ⊕ exponent ⊗ mixed (lo .slope) (hi .slope) weight ⊘ mixed (lo .value) (hi .value) weight) })
     (scaled lo hi weight exponent M)
 unfolding scaled
 with-drag lo hi weight exponent M is-blunt is-scaled rises = simp (rises, is-scaled, is-blunt)
