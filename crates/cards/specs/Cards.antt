@@ -3,6 +3,7 @@
 -- refusal.
 use mathlib.Core.Bool.{Bool, true, false, cond, not}
 use mathlib.Core.List.{List, _++_}
+use mathlib.Core.Option.{Option, none, some}
 use Prim.Native.Nat.{ℕ, _+_, _-_, _*_}
 use lib.ListN.{length, replicate}
 use lib.Dec.{ltb, eqb}
@@ -11,6 +12,7 @@ use Rattle.elementary.specs.Constants.{0·0}
 use Rattle.aero_error.specs.declared.AeroError.{AeroError}
 use Rattle.aero_error.specs.declared.AeroError.the-variants.{Broken}
 use Rattle.aero_error.specs.declared.Rule.the-variants.{CardEnds, ReservedBit, FieldMissing, TooManyColumns}
+use Rattle.aero_error.specs.Told.{Told, toldOf}
 use Rattle.shapes.specs.declared.NoseShape.{NoseShape}
 use Rattle.shapes.specs.Numbers.{shapeOf}
 use Rattle.aero_error.specs.declared.Check.the-variants.{Passed, Failed}
@@ -66,6 +68,11 @@ partFields map s at = cond (ltb 63 map) (NoPart (Broken ReservedBit)) (onShape (
 unfoldable pub partAt : List ℕ → ℕ → PartRead
 unfolding partFields
 partAt s at = onByte (byteAt true s at) NoPart λ map next. partFields map s next
+
+-- what a read part card tells: nothing where it is read. A settings card's answer has its outcome in it
+abbrev pub toldOfPart : PartRead → Option Told
+toldOfPart (Read part next) = none
+toldOfPart (NoPart e) = some (toldOf e)
 
 -- ---- settings cards: bit 0 D, 1 roughness, 2 B, 3 a count byte and that many pairs M, R
 

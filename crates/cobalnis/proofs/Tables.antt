@@ -1,20 +1,13 @@
--- Two constants, and the answer of a test under a code.
+-- The bits of +0, and the answer of a test under a code.
 use mathlib.Core.Path.{_≡_, refl, ap}
 use Prim.Native.Nat.{ℕ, _+_, _*_}
-use lib.Ieee.{Float, toBits, ofBits, round, div, binary64}
-use Rattle.elementary.specs.Arithmetic.{bits}
+use lib.Ieee.{Float, toBits, ofBits, binary64}
 use Rattle.elementary.specs.Constants.{0·0}
-use Rattle.nose_drag.specs.Constants.{one-third}
 use mathlib.Core.Bool.{Bool, true, false, cond}
 use Rattle.aero_error.specs.declared.Quantity.{Quantity}
 use Rattle.aero_error.specs.Refusals.{codeOfQuantity}
 use Rattle.aero_error.specs.Checks.{required}
 use Rattle.cobalnis.specs.Answers.{answerStatus, answerBits, tested}
-
--- the constant 1/3 is the rounded quotient
-pub third-computed : bits 0x3fd5_5555_5555_5555 ≡ one-third
-unfolding ofBits round div
-third-computed = refl
 
 -- the bits of +0
 pub zero-bits : toBits binary64 0·0 ≡ 0

@@ -17,12 +17,10 @@ use Rattle.aero_error.specs.declared.Check.the-variants.{Passed, Failed}
 use Rattle.aero_error.specs.declared.Coefficient.{Coefficient}
 use Rattle.aero_error.specs.declared.Coefficient.the-variants.{Value, Refused}
 use Rattle.aero_error.specs.Checks.{upTo, _then_, unless, _and-then_}
-use Rattle.aero_error.specs.Refusals.{numberOf, codeOf, refusedValue}
+use Rattle.aero_error.specs.Told.{toldOf}
 use Rattle.drag.specs.Friction.{machChecked, criticalReynolds, incompressibleSkinFriction, skinFrictionCoefficient, bodyFrictionFormFactor}
 use Rattle.drag.specs.Pressure.{stagnationRatio, stagnationPressureRatio, stagnationDragCoefficient, baseDragCoefficient, jointPressureDragCoefficient, boattailFactor}
-use Rattle.shapes.specs.declared.NoseShape.{NoseShape}
-use Rattle.shapes.specs.declared.NoseShape.the-variants.{Haack}
-use Rattle.shapes.specs.Numbers.{shapeOf, parameterOf}
+use Rattle.shapes.specs.Numbers.{shapeOf, parameterOf, von-karman, lv-haack}
 use Rattle.stoney.specs.Tables.{noseAt}
 use Rattle.stoney.specs.Points.{machAt, dragAt, rangeOf, firstMach}
 use Rattle.stoney.specs.Lookup.{valueAndSlope}
@@ -31,7 +29,6 @@ use Rattle.nose_drag.specs.declared.builder.Curve.{Curve}
 use Rattle.nose_drag.specs.declared.builder.Curve.the-variants.{Built, Refused as NotBuilt}
 use Rattle.nose_drag.specs.Below.{subsonicPressureDragCoefficient}
 use Rattle.nose_drag.specs.Methods.{ogivePressureDragFactor, finenessScaledPressureDrag, ellipsoidSubsonicPressureDrag}
-use Rattle.nose_drag.specs.Constants.{one-third}
 use Rattle.nose_drag.specs.Curves.{stepCurve, newCurve, coefficientOf}
 use Rattle.sheet_data.specs.declared.Sheet.{Sheet}
 use Rattle.drag_sheet.specs.declared.Answer.{Answer}
@@ -48,7 +45,7 @@ use Rattle.cobalnis.specs.Words.{first-part, spread, partWords, settings
 
 -- 0 is accepted; a refusal's number, plus 256 times the code of refusal 1
 abbrev pub statusOf : AeroError → ℕ
-statusOf e = numberOf e + 256 * codeOf e
+statusOf e = toldOf e .number + 256 * toldOf e .code
 
 -- for a number that names no formula, shape, nose or quantity
 abbrev pub no-such : ℕ
@@ -61,19 +58,13 @@ answerStatus (Refused e) = statusOf e
 -- the bits of the value, or of the value refused
 abbrev pub answerBits : Coefficient → ℕ
 answerBits (Value v) = toBits binary64 v
-answerBits (Refused e) = toBits binary64 (refusedValue e)
+answerBits (Refused e) = toBits binary64 (toldOf e .value)
 
 -- a test that passes answers +0
 abbrev pub tested : Check → Coefficient
 tested check = check and-then Value 0·0
 
 -- ---- formulas, by their numbers from 0; the last two are the parameters of the Haack shapes that have names
-
-abbrev VON-KARMAN : NoseShape
-VON-KARMAN = Haack 0·0
-
-abbrev LV-HAACK : NoseShape
-LV-HAACK = Haack one-third
 
 abbrev pub formulas : Float → Float → Float → Float → Float → List Formula
 formulas a b c d e =
@@ -97,8 +88,8 @@ formulas a b c d e =
     ∷ Is (finenessScaledPressureDrag a b c)
     ∷ Is (ellipsoidSubsonicPressureDrag a b)
     ∷ Is (Value (stagnationRatio a))
-    ∷ Is (Value (parameterOf VON-KARMAN))
-    ∷ Is (Value (parameterOf LV-HAACK))
+    ∷ Is (Value (parameterOf von-karman))
+    ∷ Is (Value (parameterOf lv-haack))
     ∷ []
 
 unfoldable pub formulaOf : ℕ → Float → Float → Float → Float → Float → Formula
@@ -167,10 +158,10 @@ about value curve = toBits binary64 value ∷ toBits binary64 (curve .rest) ∷ 
 -- a curve at these Machs: the status r, the lent words before (xs) and after (ys), and what is said about the curve
 abbrev pub ReadAt : Check → PressureDragCurve → List Float → List ℕ → ℕ → List ℕ → List ℕ → Type 0
 ReadAt Passed curve machs xs r ys said = (r ≡ 0) × (ys ≡ sets xs 0 (spread (coefficientWord curve) machs)) × (said ≡ about 0·0 curve)
-ReadAt (Failed e) curve machs xs r ys said = (r ≡ statusOf e) × (ys ≡ xs) × (said ≡ about (refusedValue e) curve)
+ReadAt (Failed e) curve machs xs r ys said = (r ≡ statusOf e) × (ys ≡ xs) × (said ≡ about (toldOf e .value) curve)
 
 abbrev pub CurveDone : Curve → List Float → List ℕ → ℕ → List ℕ → List ℕ → Type 0
-CurveDone (NotBuilt e) machs xs r ys said = (r ≡ statusOf e) × (ys ≡ xs) × (said ≡ toBits binary64 (refusedValue e) ∷ 0 ∷ 0 ∷ [])
+CurveDone (NotBuilt e) machs xs r ys said = (r ≡ statusOf e) × (ys ≡ xs) × (said ≡ toBits binary64 (toldOf e .value) ∷ 0 ∷ 0 ∷ [])
 CurveDone (Built curve) machs xs r ys said = ReadAt (unless (ltb (length xs) (length machs)) TooFewCells then machsTest machs) curve machs xs r ys said
 
 -- a shape's number above 6 names none
@@ -183,7 +174,7 @@ CurveAnswered true curve machs xs before r ys said = (r ≡ no-such) × (ys ≡ 
 -- accepted, the words are those of the sheet handed back; refused, they are as they were, and the value refused is handed out
 abbrev pub Shown : Check → Sheet → List ℕ → ℕ → List ℕ → ℕ → Type 0
 Shown Passed sheet ws r ws' bits' = (r ≡ 0) × (ws' ≡ sheetWords sheet) × (bits' ≡ 0)
-Shown (Failed e) sheet ws r ws' bits' = (r ≡ statusOf e) × (ws' ≡ ws) × (bits' ≡ toBits binary64 (refusedValue e))
+Shown (Failed e) sheet ws r ws' bits' = (r ≡ statusOf e) × (ws' ≡ ws) × (bits' ≡ toBits binary64 (toldOf e .value))
 
 -- the answer of `drag_sheet`'s own call on the sheet that the words stand for, shown in words
 pub record CallShown (call : Call) (ws : List ℕ) (xs : List Float) (r : ℕ) (ws' : List ℕ) (bits' : ℕ) (ys : List Float) : Type 0 where

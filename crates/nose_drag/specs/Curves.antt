@@ -1,5 +1,6 @@
 -- A curve's coefficient at a Mach number, and the curve of each shape (nose_drag.rs, `PressureDragCurve`). f is the fineness ratio, φ the joint angle.
 use mathlib.Core.Bool.{Bool, true, false, cond, _&&_, _||_}
+use mathlib.Core.Option.{Option, none, some}
 use lib.Ieee.{Float, ne}
 use lib.Ieee.Scale.{finite}
 use Rattle.elementary.specs.Arithmetic.{_⊕_, _⊖_, _⊗_, _⊘_, _≺_, _≼_, _≈_}
@@ -13,6 +14,7 @@ use Rattle.aero_error.specs.declared.Coefficient.{Coefficient}
 use Rattle.aero_error.specs.declared.Quantity.{Quantity}
 use Rattle.aero_error.specs.declared.Quantity.the-variants.{Fineness, PowerExponent, ParabolicParameter, HaackParameter}
 use Rattle.aero_error.specs.Checks.{required, dimension, after, withValue, _and-then_}
+use Rattle.aero_error.specs.Told.{Told, toldOf}
 use Rattle.drag.specs.Constants.{0·25, 3·0}
 use Rattle.stoney.specs.Lookup.{SUBSONIC-MACH-LIMIT}
 use Rattle.drag.specs.Friction.{machChecked}
@@ -168,6 +170,11 @@ recorded shape f curve =
 
 unfoldable pub newCurve : NoseShape → Float → Float → Curve
 newCurve shape f φ = build shape f φ for-built λ curve. Curve.Built (recorded shape f curve)
+
+-- what the builder's answer tells: nothing where the curve is built
+abbrev pub toldOfCurve : Curve → Option Told
+toldOfCurve (Curve.Built curve) = none
+toldOfCurve (Curve.Refused e) = some (toldOf e)
 
 -- ---- whether a shape takes any of the closed-form cone; a NaN parameter counts
 abbrev pub takesConeFormula : NoseShape → Bool

@@ -3,7 +3,7 @@ use mathlib.Core.Path.{sym}
 use native.Mathlib.Omega.{arith}
 use lib.ListN.{List·getD-eq-default}
 use Rattle.cobalnis.specs.Answers.{formulas, formulaOf}
-use Rattle.cobalnis.proofs.Tables.{third-computed}
+use Rattle.shapes.specs.Numbers.{third}
 use Rattle.elementary.proofs.Cases.{above}
 use borrow.Author.Needs.{needs}
 use Rattle.cobalnis.proofs.formulas.formula_of.Statement.{statement}
@@ -40,5 +40,5 @@ formula-of-spec =
     (λ c. simp (c .before .match .keys19, c .ellipsoid-subsonic-pressure-drag .ensures))
     (λ c. simp (c .before .match .keys20, c .stagnation-ratio .ensures))
     (λ c. simp (c .before .match .keys21, c .parameter .ensures))
-    (λ c. simp (c .before .match .keys22, c .parameter2 .ensures, ← third-computed))
+    (λ c. simp (c .before .match .keys22, c .parameter2 .ensures, third .1))
     (λ c. sym (List·getD-eq-default (formulas _ _ _ _ _) _ (above 0 22 _ (omega arith) (c .match .rest)))))
