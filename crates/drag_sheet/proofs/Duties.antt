@@ -38,14 +38,14 @@ named-append [] ms r u v = v
 named-append (n ∷ ns) ms r u v = (u .0, named-append ns ms r (u .1) v)
 
 module _ (c : Contents) (place : ℕ) (p : Part) where
-  -- a part's row that is neither its own nor the next one isn't named
-  pub body-not-part : (r : ℕ) → r < most-parts → r ≢ place → r ≢ place + 1 → Unnamed (bodyRows ++ replacedRows place (length (set (c .parts) place p))) r
+  -- a part's row that is not its own isn't named, and the one after it only where a part stands there
+  pub body-not-part : (r : ℕ) → r < most-parts → r ≢ place → (r ≡ place + 1 → length (set (c .parts) place p) ≤ place + 1) → Unnamed (bodyRows ++ replacedRows place (length (set (c .parts) place p))) r
   unfolding bodyRows
   body-not-part r h a b = (
     (λ e. omega arith),
     named-append (from (friction-row 0) finishes) (replacedRows place (length (set (c .parts) place p))) r (before-all (friction-row 0) finishes r h)
         (dite (decLt (place + 1) (length (set (c .parts) place p)))
-        (λ l. rw (lt-ltb (place + 1) (length (set (c .parts) place p)) l) (b, (a, tt)))
+        (λ l. rw (lt-ltb (place + 1) (length (set (c .parts) place p)) l) ((λ e. omega (arith, b e)), (a, tt)))
         (λ l. rw (le-ltb (place + 1) (length (set (c .parts) place p)) (omega arith)) (a, tt))),
   )
 

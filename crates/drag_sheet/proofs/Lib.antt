@@ -12,3 +12,7 @@ pub mod Changed
 pub mod Duties
 pub mod CallLaws
 pub mod ListsLaw
+pub mod Refusals
+pub mod TestsKept
+pub mod OnlyCurves
+pub mod Places
