@@ -1,9 +1,8 @@
 -- Once a sheet's tests pass, nothing but a curve refuses: friction, form factor and base are numbers at every column, and a row that can't be built is that of a part
 -- wider than the one before it whose curve can't be made. The same of the contents that a call leaves.
 use mathlib.Core.Path.{_≡_, refl, sym, ap, _∙_}
-use mathlib.Core.Logic.{_⊎_, inl, inr, ⊎-elim}
+use mathlib.Core.Logic.{⊎-elim}
 use mathlib.Core.Bool.{Bool, true, false, cond}
-use mathlib.Core.List.{List}
 use Prim.Native.Nat.{ℕ, zero, suc, _+_, _<_}
 use native.Mathlib.Omega.{arith}
 use lib.ListN.{length, length-set}
@@ -16,10 +15,9 @@ use Rattle.elementary.specs.Tests.{between}
 use Rattle.elementary.specs.Constants.{0·0, 0·5, 1·0}
 use Rattle.aero_error.specs.declared.AeroError.{AeroError}
 use Rattle.aero_error.specs.declared.Rule.the-variants.{TooManyColumns, DesignFull}
-use Rattle.aero_error.specs.declared.Check.{Check}
 use Rattle.aero_error.specs.declared.Check.the-variants.{Passed, Failed}
 use Rattle.aero_error.specs.declared.Coefficient.the-variants.{Value}
-use Rattle.aero_error.specs.Checks.{dimension, _then_, unless, upTo}
+use Rattle.aero_error.specs.Checks.{dimension, unless, upTo}
 use Rattle.aero_error.specs.CheckLaws.{both-passed, up-each, up-all, up-same}
 use Rattle.drag.specs.Friction.{machChecked, flowChecked, limitedFriction, compressible, skinFrictionCoefficient, bodyFrictionFormFactor}
 use Rattle.drag.specs.Pressure.{baseDrag, baseDragCoefficient}
@@ -110,25 +108,26 @@ pub data Way (f : Float) (part : Part) : Prepared → Type 0 where
   narrows : {area : Float} → (part .«aft_diameter» ≺ f) ≡ true → Way f part (Ready (Narrowing (part .length) f (part .«aft_diameter») area))
   level : Way f part (Ready Level)
 
-pub way : (D f : Float) (part : Part) → Way f part (preparedOf D f part)
-unfolding preparedOf
-way D f part = wide (d ≺ f) (f ≺ d) refl refl
-  where
-    abbrev d : Float
-    d = part .«aft_diameter»
+module _ (D f : Float) (part : Part) where
+  abbrev d : Float
+  d = part .«aft_diameter»
 
-    abbrev thin : Bool → Prepared
-    thin b = cond b (Ready (Narrowing (part .length) f d (areaRatio f d D))) (Ready Level)
+  abbrev curve-of : Curve
+  curve-of = newCurve (part .shape) (part .length ⊘ (part .«aft_diameter» ⊖ f)) (part .«joint_angle»)
 
-    built : (curve : Curve) → (f ≺ d) ≡ true → newCurve (part .shape) (part .length ⊘ (d ⊖ f)) (part .«joint_angle») ≡ curve → Way f part (withCurve curve (areaRatio d f D))
-    built (Built curve) w q = widens
-    built (NotBuilt e) w q = refused w q
+  built : (curve : Curve) → (f ≺ part .«aft_diameter») ≡ true → curve-of ≡ curve → Way f part (withCurve curve (areaRatio d f D))
+  built (Built curve) w q = widens
+  built (NotBuilt e) w q = refused w q
 
-    wide : (less more : Bool) → (d ≺ f) ≡ less → (f ≺ d) ≡ more
-        → Way f part (cond more (withCurve (newCurve (part .shape) (part .length ⊘ (d ⊖ f)) (part .«joint_angle»)) (areaRatio d f D)) (thin less))
-    wide less true l m = built (newCurve (part .shape) (part .length ⊘ (d ⊖ f)) (part .«joint_angle»)) m refl
-    wide true false l m = narrows l
-    wide false false l m = level
+  wide : (less more : Bool) → (part .«aft_diameter» ≺ f) ≡ less → (f ≺ part .«aft_diameter») ≡ more
+      → Way f part (cond more (withCurve curve-of (areaRatio d f D)) (cond less (Ready (Narrowing (part .length) f d (areaRatio f d D))) (Ready Level)))
+  wide less true l m = built curve-of m refl
+  wide true false l m = narrows l
+  wide false false l m = level
+
+  pub way : Way f part (preparedOf D f part)
+  unfolding preparedOf
+  way = wide (d ≺ f) (f ≺ d) refl refl
 
 hundred-finite : finite 100·0 ≡ true
 unfolding ofBits

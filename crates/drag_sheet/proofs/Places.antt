@@ -1,6 +1,6 @@
 -- Refusals 8 and 9 by laws of their own: 8 is given exactly where the place or the column isn't there, 9 exactly where 16 parts stand, of every call, sheet and number
 -- of cells, and of the model. No test of settings, parts or rows gives either (`Other`).
-use mathlib.Core.Path.{_≡_, refl, sym, ap, _∙_, subst}
+use mathlib.Core.Path.{_≡_, refl, ap, subst}
 use mathlib.Core.Logic.{_≢_, _↔_, _⊎_, inl, inr, ⊎-elim}
 use mathlib.Core.Bool.{Bool, true, false, cond, _&&_}
 use mathlib.Core.List.{List}
@@ -8,19 +8,20 @@ use Prim.Native.Nat.{ℕ, zero, suc, _+_, _≤_, _<_}
 use native.Mathlib.Omega.{arith}
 use lib.ListN.{length}
 use lib.Dec.{ltb, leb}
-use lib.Ieee.{Float, binary64, mul}
+use lib.Ieee.{Float}
 use lib.Ieee.Scale.{finite}
 use borrow.Author.Tests.{ltb-true, ltb-false, leb-true, lt-ltb, le-ltb, le-leb}
-use Rattle.elementary.specs.Arithmetic.{_≺_}
+use Rattle.elementary.specs.Arithmetic.{_⊗_, _≺_, _≼_}
 use Rattle.elementary.specs.Tests.{between}
+use Rattle.elementary.specs.Constants.{0·0}
 use Rattle.aero_error.specs.declared.Quantity.{Quantity}
+use Rattle.aero_error.specs.declared.Quantity.the-variants.{Mach, Reynolds, BodyFineness, BoattailLength, BoattailAft, BoattailFore}
 use Rattle.aero_error.specs.declared.AeroError.{AeroError}
 use Rattle.aero_error.specs.declared.AeroError.the-variants.{Domain, Broken}
 use Rattle.aero_error.specs.declared.Rule.{Rule}
-use Rattle.aero_error.specs.declared.Rule.the-variants.{TooManyColumns, NoSuchPlace, DesignFull, TooFewCells, OutsideInterval}
+use Rattle.aero_error.specs.declared.Rule.the-variants.{TooManyColumns, NoSuchPlace, DesignFull, TooFewCells}
 use Rattle.aero_error.specs.declared.Check.{Check}
 use Rattle.aero_error.specs.declared.Check.the-variants.{Passed, Failed}
-use Rattle.aero_error.specs.declared.Coefficient.{Coefficient}
 use Rattle.aero_error.specs.declared.Coefficient.the-variants.{Value}
 use Rattle.aero_error.specs.Refusals.{numberOfRule, numberOf}
 use Rattle.aero_error.specs.Checks.{required, dimension, _then_, unless, upTo, _and-then_, _for-value_}
@@ -35,13 +36,11 @@ use Rattle.sheet_data.specs.declared.Sheet.{Sheet}
 use Rattle.sheet_data.specs.Layout.{most-parts, most-columns, needed}
 use Rattle.sheet_data.specs.Contents.{Contents, contentsOf, partAt, foreAt, machAt}
 use Rattle.sheet_data.specs.Tests.{inInterval, bodyTest, columnsTest, settingsTest, partTest, partsTest, sheetTest}
-use Rattle.drag_sheet.specs.declared.part.Row.{Row}
 use Rattle.drag_sheet.specs.declared.part.Prepared.{Prepared}
-use Rattle.drag_sheet.specs.Formulas.{scaledBy, preparedOf, cellOf, cellFrom, readyTest, madeTest}
+use Rattle.drag_sheet.specs.Formulas.{scaledBy, cellOf, cellFrom, readyTest, madeTest}
 use Rattle.drag_sheet.specs.Build.{preparedAt, rowTest, trial}
-use Rattle.drag_sheet.specs.Calls.{Call, replace, insert, remove, setColumn, argumentsTest, rowTestWhere, columnTrial, tries, after, decision, applied}
+use Rattle.drag_sheet.specs.Calls.{Call, replace, insert, remove, setColumn, argumentsTest, columnTrial, tries, after, decision, applied}
 use Rattle.drag_sheet.specs.Model.{modelDecision}
-use Rattle.drag_sheet.proofs.Verdicts.{never}
 use Rattle.drag_sheet.proofs.Refusals.{then-failed, unless-failed}
 use Rattle.drag_sheet.proofs.OnlyCurves.{Way, widens, refused, narrows, level, way}
 
@@ -82,18 +81,18 @@ module _ (n : ℕ) (low : 8 ≤ n) (high : n ≤ 9) where
 
   other-mach : (M : Float) → Other n (machChecked M)
   unfolding machChecked
-  other-mach M = other-required _ _ M
+  other-mach M = other-required (finite M && 0·0 ≼ M) Mach M
 
   other-flow : (M R : Float) → Other n (flowChecked M R)
-  other-flow M R = other-then n (machChecked M) _ (other-mach M) (other-required _ _ R)
+  other-flow M R = other-then n (machChecked M) _ (other-mach M) (other-required (dimension R true) Reynolds R)
 
   other-settings : (s : Settings) (cells : ℕ) → Other n (settingsTest s cells)
   unfolding settingsTest columnsTest
   other-settings s cells =
-      other-then n (unless (ltb most-columns (s .count)) TooManyColumns) _ (other-unless n _ TooManyColumns (λ q. omega arith))
+      other-then n (unless (ltb most-columns (s .count)) TooManyColumns) _ (other-unless n (ltb most-columns (s .count)) TooManyColumns (λ q. omega arith))
       (other-then n (bodyTest s) _
-      (other-then n (inInterval _ (s .«reference_diameter») _) _ (other-interval _ _ _) (other-then n (inInterval _ (s .roughness) _) _ (other-interval _ _ _) (other-required _ _ _)))
-      (other-then n (columnsTest s) _ (other-up n (s .count) _ (λ k. other-flow _ _)) (other-unless n _ TooFewCells (λ q. omega arith))))
+      (other-then n (inInterval _ (s .«reference_diameter») _) _ (other-interval _ _ _) (other-then n (inInterval _ (s .roughness) _) _ (other-interval _ _ _) (other-required (dimension (s .«body_fineness») false) BodyFineness _)))
+      (other-then n (columnsTest s) _ (other-up n (s .count) _ (λ k. other-flow _ _)) (other-unless n (ltb cells (needed (s .count))) TooFewCells (λ q. omega arith))))
 
   other-part : (p : Part) → Other n (partTest p)
   other-part p = other-then n (inInterval _ (p .length) _) _ (other-interval _ _ _) (other-then n (inInterval _ (p .«aft_diameter») _) _ (other-interval _ _ _) (other-interval _ _ _))
@@ -120,20 +119,25 @@ module _ (n : ℕ) (low : 8 ≤ n) (high : n ≤ 9) where
   other-scaled (Failed e) v area h = h
 
   other-product : (a b : Check) (v w area : Float) → Other n a → Other n b
-      → Other n (madeTest (scaledBy area ((a and-then Value v) for-value λ x. (b and-then Value w) for-value λ y. Value (mul binary64 x y))))
+      → Other n (madeTest (scaledBy area ((a and-then Value v) for-value λ x. (b and-then Value w) for-value λ y. Value (x ⊗ y))))
   other-product Passed Passed v w area h k = tt
   other-product Passed (Failed e) v w area h k = k
   other-product (Failed e) b v w area h k = h
+
+  -- the tests of a boattail
+  abbrev boattailTest : Float → Float → Float → Check
+  boattailTest l f d = required (dimension l true) BoattailLength l then required (dimension d true) BoattailAft d then required (finite f && d ≺ f) BoattailFore f
+
+  other-boattail : (l f d : Float) → Other n (boattailTest l f d)
+  other-boattail l f d =
+      other-then n (required (dimension l true) BoattailLength l) _ (other-required (dimension l true) BoattailLength l)
+      (other-then n (required (dimension d true) BoattailAft d) _ (other-required (dimension d true) BoattailAft d) (other-required (finite f && d ≺ f) BoattailFore f))
 
   other-made : {f : Float} {part : Part} {p : Prepared} (M : Float) → Way f part p → Other n (madeTest (cellFrom p M))
   unfolding cellOf coefficientOf baseDragCoefficient boattailFactor
   other-made M (widens {area = area}) = other-scaled (machChecked M) _ area (other-mach M)
   other-made M (refused {e} w q) = other-curve e (curve-refusals _ _ _ e q)
-  other-made {f} {part} M (narrows {area} h) =
-      other-product (machChecked M)
-      (required (dimension (part .length) true) _ _ then required (dimension (part .«aft_diameter») true) _ _ then required (finite f && part .«aft_diameter» ≺ f) _ _)
-      _ _ area (other-mach M)
-      (other-then n (required (dimension (part .length) true) _ _) _ (other-required _ _ _) (other-then n (required (dimension (part .«aft_diameter») true) _ _) _ (other-required _ _ _) (other-required _ _ _)))
+  other-made {f} {part} M (narrows {area} h) = other-product (machChecked M) (boattailTest (part .length) f (part .«aft_diameter»)) _ _ area (other-mach M) (other-boattail (part .length) f (part .«aft_diameter»))
   other-made M level = tt
 
   way-at : (c : Contents) (i : ℕ) → Way (foreAt (c .parts) i) (partAt (c .parts) i) (preparedAt c i)
@@ -176,7 +180,7 @@ arguments-8 (replace place p) s count e =
     ⊎-elim (λ a. leb-true count place (unless-failed _ NoSuchPlace a)) (λ b. apart (other-part 8 (omega arith) (omega arith) p) refl (b .1)) (then-failed (unless (leb count place) NoSuchPlace) _ e)
 arguments-8 (insert place p) s count e =
     ⊎-elim (λ a. ltb-true count place (unless-failed _ NoSuchPlace a))
-    (λ b. apart (other-then 8 (unless (leb most-parts count) DesignFull) _ (other-unless 8 _ DesignFull (λ q. omega arith)) (other-part 8 (omega arith) (omega arith) p)) refl (b .1))
+    (λ b. apart (other-then 8 (unless (leb most-parts count) DesignFull) _ (other-unless 8 (leb most-parts count) DesignFull (λ q. omega arith)) (other-part 8 (omega arith) (omega arith) p)) refl (b .1))
     (then-failed (unless (ltb count place) NoSuchPlace) _ e)
 arguments-8 (remove place) s count e = leb-true count place (unless-failed _ NoSuchPlace e)
 arguments-8 (setColumn k M R) s count e =
@@ -192,16 +196,16 @@ other-8 : (broken : Bool) → Other 9 (unless broken NoSuchPlace)
 other-8 broken = other-unless 9 broken NoSuchPlace (λ q. omega arith)
 
 arguments-9 : (call : Call) (s : Settings) (count : ℕ) → count ≤ most-parts → argumentsTest call s count ≡ Failed (Broken DesignFull) → Full call count
-arguments-9 (replace place p) s count few e = apart (other-then 9 (unless (leb count place) NoSuchPlace) _ (other-8 _) (other-part 9 (omega arith) (omega arith) p)) refl e
+arguments-9 (replace place p) s count few e = apart (other-then 9 (unless (leb count place) NoSuchPlace) _ (other-8 (leb count place)) (other-part 9 (omega arith) (omega arith) p)) refl e
 arguments-9 (insert place p) s count few e =
-    ⊎-elim (λ a. apart (other-8 _) refl a)
+    ⊎-elim (λ a. apart (other-8 (ltb count place)) refl a)
     (λ b. (
       ltb-false count place (unless-passed _ NoSuchPlace (b .0)),
       ⊎-elim (λ d. let h = leb-true most-parts count (unless-failed _ DesignFull d) in omega arith) (λ d. apart (other-part 9 (omega arith) (omega arith) p) refl (d .1)) (then-failed (unless (leb most-parts count) DesignFull) _ (b .1)),
     ))
     (then-failed (unless (ltb count place) NoSuchPlace) _ e)
 arguments-9 (remove place) s count few e = apart (other-8 (leb count place)) refl e
-arguments-9 (setColumn k M R) s count few e = apart (other-then 9 (unless (leb (s .count) k) NoSuchPlace) _ (other-8 _) (other-flow 9 (omega arith) (omega arith) M R)) refl e
+arguments-9 (setColumn k M R) s count few e = apart (other-then 9 (unless (leb (s .count) k) NoSuchPlace) _ (other-8 (leb (s .count) k)) (other-flow 9 (omega arith) (omega arith) M R)) refl e
 
 full-9 : (call : Call) (s : Settings) (count : ℕ) → Full call count → argumentsTest call s count ≡ Failed (Broken DesignFull)
 full-9 (replace place p) s count h = absurd h
@@ -216,10 +220,10 @@ module _ (call : Call) (s : Settings) (cells count : ℕ) (ps : List Part) (rest
   unfolding sheetTest
   eight other = (
     (λ e.
-    ⊎-elim
-    (λ a. apart (other-then 8 (settingsTest s cells) _ (other-settings 8 (omega arith) (omega arith) s cells) (other-then 8 (unless (ltb most-parts count) DesignFull) _ (other-unless 8 _ DesignFull (λ q. omega arith)) (other-parts 8 (omega arith) (omega arith) ps))) refl a)
-    (λ b. (b .0, ⊎-elim (arguments-8 call s count) (λ d. apart other refl (d .1)) (then-failed (argumentsTest call s count) rest (b .1))))
-    (then-failed (sheetTest s cells count ps) _ e)),
+        ⊎-elim
+        (λ a. apart (other-then 8 (settingsTest s cells) _ (other-settings 8 (omega arith) (omega arith) s cells) (other-then 8 (unless (ltb most-parts count) DesignFull) _ (other-unless 8 (ltb most-parts count) DesignFull (λ q. omega arith)) (other-parts 8 (omega arith) (omega arith) ps))) refl a)
+        (λ b. (b .0, ⊎-elim (arguments-8 call s count) (λ d. apart other refl (d .1)) (then-failed (argumentsTest call s count) rest (b .1))))
+        (then-failed (sheetTest s cells count ps) _ e)),
     (λ h. rw (h .0, absent-8 call s count (h .1))),
   )
 
@@ -244,10 +248,10 @@ module _ (call : Call) (s : Settings) (cells count : ℕ) (ps : List Part) (rest
   unfolding sheetTest
   nine other = (
     (λ e.
-    ⊎-elim
-    (λ a. inl (over a))
-    (λ b. inr (b .0, ⊎-elim (arguments-9 call s count (few (b .0))) (λ d. apart other refl (d .1)) (then-failed (argumentsTest call s count) rest (b .1))))
-    (then-failed (sheetTest s cells count ps) _ e)),
+        ⊎-elim
+        (λ a. inl (over a))
+        (λ b. inr (b .0, ⊎-elim (arguments-9 call s count (few (b .0))) (λ d. apart other refl (d .1)) (then-failed (argumentsTest call s count) rest (b .1))))
+        (then-failed (sheetTest s cells count ps) _ e)),
     ⊎-elim (λ h. rw (h .0, lt-ltb most-parts count (h .1))) (λ h. rw (h .0, full-9 call s count (h .1))),
   )
 

@@ -1,5 +1,5 @@
 -- The tests of a sheet hold of the contents that a call leaves, where they held before and the call's own arguments passed theirs.
-use mathlib.Core.Path.{_≡_, refl}
+use mathlib.Core.Path.{_≡_}
 use mathlib.Core.Bool.{true}
 use mathlib.Core.List.{List, [], _∷_, _++_}
 use Prim.Native.Nat.{ℕ, zero, suc, _+_, _<_}
@@ -11,14 +11,14 @@ use lib.Ieee.{Float, nan}
 use borrow.Author.Tests.{ltb-false, le-ltb}
 use Rattle.aero_error.specs.declared.Check.the-variants.{Passed}
 use Rattle.aero_error.specs.declared.Quantity.the-variants.{Reynolds}
-use Rattle.aero_error.specs.declared.Rule.the-variants.{TooManyColumns, TooFewCells, DesignFull, NoSuchPlace}
-use Rattle.aero_error.specs.Checks.{required, dimension, _then_, unless}
+use Rattle.aero_error.specs.declared.Rule.the-variants.{TooManyColumns, DesignFull, NoSuchPlace}
+use Rattle.aero_error.specs.Checks.{required, dimension, unless}
 use Rattle.aero_error.specs.CheckLaws.{both-passed, unless-passed, up-each, up-all}
 use Rattle.drag.specs.Friction.{machChecked, flowChecked}
 use Rattle.sheet_data.specs.declared.Settings.{Settings}
 use Rattle.sheet_data.specs.declared.Part.{Part}
-use Rattle.sheet_data.specs.Layout.{most-parts, most-columns, needed}
-use Rattle.sheet_data.specs.Contents.{Contents, no-part, partAt, machAt, reynoldsAt}
+use Rattle.sheet_data.specs.Layout.{most-parts, most-columns}
+use Rattle.sheet_data.specs.Contents.{Contents, no-part, machAt, reynoldsAt}
 use Rattle.sheet_data.specs.Tests.{bodyTest, columnsTest, settingsTest, partTest, partsTest, sheetTest}
 use Rattle.drag_sheet.specs.Calls.{Call, replace, insert, remove, setColumn, withColumn, applied, argumentsTest}
 use Rattle.drag_sheet.proofs.Answers.{bounds}
