@@ -7,6 +7,7 @@ pub mod Overwritten
 pub mod MadeRows
 pub mod Laying
 pub mod Answers
+pub mod Columns
 pub mod OneColumn
 pub mod Changed
 pub mod Duties
