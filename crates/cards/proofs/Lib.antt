@@ -2,3 +2,4 @@
 pub mod Tests
 pub mod Numbers
 pub mod Extents
+pub mod CountByte
