@@ -1,11 +1,12 @@
 -- Once a sheet's tests pass, nothing but a curve refuses: friction, form factor and base are numbers at every column, and a row that can't be built is that of a part
--- wider than the one before it whose curve can't be made. The same of the contents that a call leaves.
+-- wider than the one before it whose curve can't be made. The same of the contents that a call leaves (`sheet-only-curves`).
 use mathlib.Core.Path.{_≡_, refl, sym, ap, _∙_}
 use mathlib.Core.Logic.{⊎-elim}
 use mathlib.Core.Bool.{Bool, true, false, cond}
 use Prim.Native.Nat.{ℕ, zero, suc, _+_, _<_}
 use native.Mathlib.Omega.{arith}
 use lib.ListN.{length, length-set}
+use lib.Seq.{length-take-le}
 use lib.Dec.{ltb}
 use lib.Ieee.{Float, lt, le, eq, ofBits}
 use lib.Ieee.Scale.{finite}
@@ -28,18 +29,19 @@ use Rattle.nose_drag.specs.declared.builder.Curve.the-variants.{Built, Refused 
 use Rattle.nose_drag.specs.Curves.{newCurve}
 use Rattle.nose_drag.specs.Answered.{curve-answered}
 use Rattle.sheet_data.specs.declared.Part.{Part}
+use Rattle.sheet_data.specs.declared.Sheet.{Sheet}
 use Rattle.sheet_data.specs.Layout.{most-parts, most-columns}
-use Rattle.sheet_data.specs.Contents.{Contents, partAt, foreAt, machAt, reynoldsAt}
+use Rattle.sheet_data.specs.Contents.{Contents, contentsOf, partAt, foreAt, machAt, reynoldsAt}
 use Rattle.sheet_data.specs.Tests.{0·001, 100·0, inInterval, bodyTest, columnsTest, settingsTest, partTest, partsTest, sheetTest}
 use Rattle.drag_sheet.specs.declared.part.Row.the-variants.{Widening, Narrowing, Level}
 use Rattle.drag_sheet.specs.declared.part.Prepared.{Prepared}
 use Rattle.drag_sheet.specs.declared.part.Prepared.the-variants.{Ready, Refused as NotReady}
 use Rattle.drag_sheet.specs.Formulas.{areaRatio, withCurve, preparedOf, cellOf, cellFrom, readyTest, madeTest}
 use Rattle.drag_sheet.specs.Build.{preparedAt, rowTest, trial}
-use Rattle.drag_sheet.specs.Calls.{Call, replace, insert, remove, setColumn, applied, argumentsTest, rowTestWhere, columnTrial, tries}
+use Rattle.drag_sheet.specs.Calls.{Call, replace, insert, remove, setColumn, applied, argumentsTest, rowTestWhere, columnTrial, tries, after, callTest, decision}
 use Rattle.drag_sheet.proofs.Verdicts.{never}
 use Rattle.drag_sheet.proofs.Refusals.{then-failed, then-first, up-refused, held, required-held}
-use Rattle.drag_sheet.proofs.Answers.{Bounds, bounds}
+use Rattle.drag_sheet.proofs.Answers.{call-facts, Bounds, bounds}
 use Rattle.drag_sheet.proofs.TestsKept.{Tested, tested-after}
 
 -- ---- what the tests have shown
@@ -173,12 +175,11 @@ module _ (c : Contents) (cells : ℕ) (tested : Tested c cells) where
 
 -- ---- a refusal
 
--- some part is wider than the one before it, and its curve is refused so
-pub record CurveRefused (c : Contents) (e : AeroError) : Type 0 where
-  pub place : ℕ
-  pub inside : place < length (c .parts)
-  pub widens : (foreAt (c .parts) place ≺ partAt (c .parts) place .«aft_diameter») ≡ true
-  pub curve : newCurve (partAt (c .parts) place .shape) (partAt (c .parts) place .length ⊘ (partAt (c .parts) place .«aft_diameter» ⊖ foreAt (c .parts) place)) (partAt (c .parts) place .«joint_angle») ≡ NotBuilt e
+-- the part at place i is wider than the one before it, and its curve is refused so
+pub record CurveRefused (c : Contents) (e : AeroError) (i : ℕ) : Type 0 where
+  pub inside : i < length (c .parts)
+  pub widens : (foreAt (c .parts) i ≺ partAt (c .parts) i .«aft_diameter») ≡ true
+  pub curve : newCurve (partAt (c .parts) i .shape) (partAt (c .parts) i .length ⊘ (partAt (c .parts) i .«aft_diameter» ⊖ foreAt (c .parts) i)) (partAt (c .parts) i .«joint_angle») ≡ NotBuilt e
 
 refusal : {f : Float} {part : Part} {p : Prepared} {e : AeroError} → Way f part p → readyTest p ≡ Failed e
     → ((f ≺ part .«aft_diameter») ≡ true) × (newCurve (part .shape) (part .length ⊘ (part .«aft_diameter» ⊖ f)) (part .«joint_angle») ≡ NotBuilt e)
@@ -187,33 +188,49 @@ refusal {e = e} (refused {e = x} w q) h = let same : x ≡ e = cc in (w, q ∙ a
 refusal (narrows n) h = never h refl
 refusal level h = never h refl
 
-pub ready-refused : (c : Contents) (i : ℕ) (e : AeroError) → i < length (c .parts) → readyTest (preparedAt c i) ≡ Failed e → CurveRefused c e
-ready-refused c i e h q =
+-- a row isn't ready exactly where its curve is refused
+pub ready-refused : (c : Contents) (e : AeroError) (i : ℕ) → i < length (c .parts) → readyTest (preparedAt c i) ≡ Failed e → CurveRefused c e i
+ready-refused c e i h q =
     let r = refusal (way (c .settings .«reference_diameter») (foreAt (c .parts) i) (partAt (c .parts) i)) q in
-    record { place = i; inside = h; widens = r .0; curve = r .1 }
+    record { inside = h; widens = r .0; curve = r .1 }
 
-some-refused : (c : Contents) (e : AeroError) → upTo (length (c .parts)) (λ i. readyTest (preparedAt c i)) ≡ Failed e → CurveRefused c e
-some-refused c e h = let r = up-refused _ (length (c .parts)) h in ready-refused c (r .0) e (r .1) (r .2)
+pub refused-ready : (c : Contents) (e : AeroError) (i : ℕ) → CurveRefused c e i → readyTest (preparedAt c i) ≡ Failed e
+unfolding preparedOf
+refused-ready c e i r = rw (r .widens, r .curve)
+
+some-refused : (c : Contents) (e : AeroError) → upTo (length (c .parts)) (λ i. readyTest (preparedAt c i)) ≡ Failed e → (i : ℕ) × CurveRefused c e i
+some-refused c e h = let r = up-refused _ (length (c .parts)) h in (r .0, ready-refused c e (r .0) (r .1) (r .2))
 
 -- whatever a call tries
-tries-refused : (call : Call) (c : Contents) (cells : ℕ) (e : AeroError) → Tested (applied call c) cells → Bounds call (c .settings) (length (c .parts)) → tries call (applied call c) ≡ Failed e → CurveRefused (applied call c) e
+tries-refused : (call : Call) (c : Contents) (cells : ℕ) (e : AeroError) → Tested (applied call c) cells → Bounds call (c .settings) (length (c .parts)) → tries call (applied call c) ≡ Failed e
+    → (i : ℕ) × CurveRefused (applied call c) e i
 unfolding tries
 tries-refused (replace place p) c cells e t b h =
     let new = applied (replace place p) c in
     let here : place < length (new .parts) = omega (arith, length-set (c .parts) place p) in
     ⊎-elim
-    (λ own. ready-refused new place e here (sym (row-ready new cells t place here) ∙ own))
-    (λ next. after (ltb (place + 1) (length (new .parts))) refl (next .1))
+    (λ own. (place, ready-refused new e place here (sym (row-ready new cells t place here) ∙ own)))
+    (λ next. next-row (ltb (place + 1) (length (new .parts))) refl (next .1))
     (then-failed (rowTest new place) (rowTestWhere new (place + 1)) h)
   where
-    after : (b : Bool) → ltb (place + 1) (length (applied (replace place p) c .parts)) ≡ b → cond b (rowTest (applied (replace place p) c) (place + 1)) Passed ≡ Failed e → CurveRefused (applied (replace place p) c) e
-    after true l q = let m = ltb-true _ _ l in ready-refused _ (place + 1) e m (sym (row-ready _ cells t (place + 1) m) ∙ q)
-    after false l q = never q refl
+    next-row : (b : Bool) → ltb (place + 1) (length (applied (replace place p) c .parts)) ≡ b → cond b (rowTest (applied (replace place p) c) (place + 1)) Passed ≡ Failed e
+        → (i : ℕ) × CurveRefused (applied (replace place p) c) e i
+    next-row true l q = let m = ltb-true _ _ l in (place + 1, ready-refused _ e (place + 1) m (sym (row-ready _ cells t (place + 1) m) ∙ q))
+    next-row false l q = never q refl
 tries-refused (insert place p) c cells e t b h = some-refused _ e (sym (trial-ready _ cells t) ∙ h)
 tries-refused (remove place) c cells e t b h = some-refused _ e (sym (trial-ready _ cells t) ∙ h)
 tries-refused (setColumn k M R) c cells e t b h = some-refused _ e (sym (column-ready _ cells t k b) ∙ h)
 
 -- a call on contents that passed, with arguments that passed, is refused by nothing but a curve
-pub only-curves : (call : Call) (c : Contents) (cells : ℕ) (e : AeroError) → Tested c cells → argumentsTest call (c .settings) (length (c .parts)) ≡ Passed
-    → tries call (applied call c) ≡ Failed e → CurveRefused (applied call c) e
+pub only-curves : (call : Call) (c : Contents) (cells : ℕ) (e : AeroError) → Tested c cells → argumentsTest call (c .settings) (length (c .parts)) ≡ Passed → tries call (applied call c) ≡ Failed e
+    → (i : ℕ) × CurveRefused (applied call c) e i
 only-curves call c cells e t a h = tries-refused call c cells e (tested-after call c cells t a) (bounds call (c .settings) (length (c .parts)) a) h
+
+-- and so is a call on a sheet, past its tests
+pub sheet-only-curves : (call : Call) (sheet : Sheet) (cells : ℕ) (e : AeroError) → length (sheet .design .parts) ≡ most-parts → callTest call sheet cells ≡ Passed → decision call sheet cells ≡ Failed e
+    → (i : ℕ) × CurveRefused (after call sheet) e i
+sheet-only-curves call sheet cells e slots ok h =
+    let f = call-facts call sheet cells ok in
+    let n : length (contentsOf sheet .parts) ≡ sheet .design .count = length-take-le (sheet .design .count) (sheet .design .parts) (omega (arith, f .fits .parts)) in
+    let t = both-passed (sheetTest (sheet .settings) cells (sheet .design .count) (contentsOf sheet .parts)) _ ok in
+    only-curves call (contentsOf sheet) cells e (rw n (t .first)) (rw n (t .second)) (rw ok at h)

@@ -175,6 +175,12 @@ Full (insert place p) count = (place ≤ count) × (count ≡ most-parts)
 Full (remove place) count = ⊥
 Full (setColumn k M R) count = ⊥
 
+absent-8 : (call : Call) (s : Settings) (count : ℕ) → Absent call s count → argumentsTest call s count ≡ Failed (Broken NoSuchPlace)
+absent-8 (replace place p) s count h = rw (le-leb count place h)
+absent-8 (insert place p) s count h = rw (lt-ltb count place h)
+absent-8 (remove place) s count h = rw (le-leb count place h)
+absent-8 (setColumn k M R) s count h = rw (le-leb (s .count) k h)
+
 arguments-8 : (call : Call) (s : Settings) (count : ℕ) → argumentsTest call s count ≡ Failed (Broken NoSuchPlace) → Absent call s count
 arguments-8 (replace place p) s count e =
     ⊎-elim (λ a. leb-true count place (unless-failed _ NoSuchPlace a)) (λ b. apart (other-part 8 (omega arith) (omega arith) p) refl (b .1)) (then-failed (unless (leb count place) NoSuchPlace) _ e)
@@ -185,12 +191,6 @@ arguments-8 (insert place p) s count e =
 arguments-8 (remove place) s count e = leb-true count place (unless-failed _ NoSuchPlace e)
 arguments-8 (setColumn k M R) s count e =
     ⊎-elim (λ a. leb-true (s .count) k (unless-failed _ NoSuchPlace a)) (λ b. apart (other-flow 8 (omega arith) (omega arith) M R) refl (b .1)) (then-failed (unless (leb (s .count) k) NoSuchPlace) _ e)
-
-absent-8 : (call : Call) (s : Settings) (count : ℕ) → Absent call s count → argumentsTest call s count ≡ Failed (Broken NoSuchPlace)
-absent-8 (replace place p) s count h = rw (le-leb count place h)
-absent-8 (insert place p) s count h = rw (lt-ltb count place h)
-absent-8 (remove place) s count h = rw (le-leb count place h)
-absent-8 (setColumn k M R) s count h = rw (le-leb (s .count) k h)
 
 other-8 : (broken : Bool) → Other 9 (unless broken NoSuchPlace)
 other-8 broken = other-unless 9 broken NoSuchPlace (λ q. omega arith)

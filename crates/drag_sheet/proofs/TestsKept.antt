@@ -85,7 +85,7 @@ unfolding partsTest
 all-parts ps a = up-all _ (length ps) (all-at Fine ps no-part a)
 
 parts-kept : (call : Call) (c : Contents) → argumentsTest call (c .settings) (length (c .parts)) ≡ Passed → All Fine (c .parts) → All Fine (applied call c .parts)
-parts-kept (replace place p) c e a = all-set Fine (c .parts) place p (both-passed (unless (leb (length (c .parts)) place) NoSuchPlace) _ e .second) a
+parts-kept (replace place p) c e a = all-set Fine (c .parts) place p (both-passed (unless (leb (length (c .parts)) place) _) _ e .second) a
 parts-kept (insert place p) c e a =
     let b = both-passed (unless (ltb (length (c .parts)) place) NoSuchPlace) _ e in
     let d = both-passed (unless (leb most-parts (length (c .parts))) DesignFull) _ (b .second) in
