@@ -6,6 +6,8 @@ pub mod Taken
 pub mod Overwritten
 pub mod MadeRows
 pub mod Laying
+pub mod Refusals
+pub mod Absent
 pub mod Answers
 pub mod Columns
 pub mod OneColumn
@@ -13,7 +15,6 @@ pub mod Changed
 pub mod Duties
 pub mod CallLaws
 pub mod ListsLaw
-pub mod Refusals
 pub mod TestsKept
 pub mod OnlyCurves
 pub mod Places
