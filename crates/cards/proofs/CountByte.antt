@@ -6,9 +6,8 @@ use lib.Ieee.{Float}
 use borrow.Author.Tests.{lt-ltb}
 use Rattle.aero_error.specs.declared.AeroError.the-variants.{Broken}
 use Rattle.aero_error.specs.declared.Rule.the-variants.{TooManyColumns}
-use Rattle.sheet_data.specs.Layout.{most-columns}
 use Rattle.cards.specs.Cards.{noSettings, columnsAt}
 
-pub count-refused : (D roughness B : Float) (n : ℕ) (s : List ℕ) (at : ℕ) → most-columns < n → columnsAt D roughness B n s at ≡ noSettings (Broken TooManyColumns)
+pub count-refused : (D roughness B : Float) (n : ℕ) (s : List ℕ) (at : ℕ) → 32 < n → columnsAt D roughness B n s at ≡ noSettings (Broken TooManyColumns)
 unfolding columnsAt
-count-refused D roughness B n s at h = rw (lt-ltb most-columns n h)
+count-refused D roughness B n s at h = rw (lt-ltb 32 n h)

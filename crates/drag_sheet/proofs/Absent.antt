@@ -102,7 +102,7 @@ Absent (setColumn k M R) s count = s .count ≤ k
 -- "9": a new part where 16 stand
 abbrev pub Full : Call → ℕ → Type 0
 Full (replace place p) count = ⊥
-Full (insert place p) count = (place ≤ count) × (count ≡ most-parts)
+Full (insert place p) count = (place ≤ count) × (count ≡ 16)
 Full (remove place) count = ⊥
 Full (setColumn k M R) count = ⊥
 

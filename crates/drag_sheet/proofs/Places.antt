@@ -156,17 +156,17 @@ module _ (call : Call) (sheet : Sheet) (cells : ℕ) where
   no-such-place = rw assoc (eight call (sheet .settings) cells (sheet .design .count) (contentsOf sheet .parts) _ (other-tries 8 (omega arith) (omega arith) call (after call sheet)))
 
   pub design-full : (decision call sheet cells ≡ Failed (Broken DesignFull))
-      ↔ (((settingsTest (sheet .settings) cells ≡ Passed) × (most-parts < sheet .design .count))
+      ↔ (((settingsTest (sheet .settings) cells ≡ Passed) × (16 < sheet .design .count))
       ⊎ ((sheetTest (sheet .settings) cells (sheet .design .count) (contentsOf sheet .parts) ≡ Passed) × Full call (sheet .design .count)))
   design-full = rw assoc (nine call (sheet .settings) cells (sheet .design .count) (contentsOf sheet .parts) _ (other-tries 9 (omega arith) (omega arith) call (after call sheet)))
 
--- the hand copy's answers, which has 16 parts at most
+-- the hand copy's answers; it has 16 parts at most
 module _ (cells : ℕ) (call : Call) (m : Contents) where
   pub model-no-such-place : (modelDecision cells call m ≡ Failed (Broken NoSuchPlace))
       ↔ ((sheetTest (m .settings) cells (length (m .parts)) (m .parts) ≡ Passed) × Absent call (m .settings) (length (m .parts)))
   model-no-such-place = eight call (m .settings) cells (length (m .parts)) (m .parts) _ (other-trial 8 (omega arith) (omega arith) (applied call m))
 
-  pub model-design-full : length (m .parts) ≤ most-parts → (modelDecision cells call m ≡ Failed (Broken DesignFull))
+  pub model-design-full : length (m .parts) ≤ 16 → (modelDecision cells call m ≡ Failed (Broken DesignFull))
       ↔ ((sheetTest (m .settings) cells (length (m .parts)) (m .parts) ≡ Passed) × Full call (length (m .parts)))
   model-design-full few =
       let e = nine call (m .settings) cells (length (m .parts)) (m .parts) _ (other-trial 9 (omega arith) (omega arith) (applied call m)) in
