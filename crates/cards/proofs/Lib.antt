@@ -3,3 +3,4 @@ pub mod Tests
 pub mod Numbers
 pub mod Extents
 pub mod Arrays
+pub mod CountByte

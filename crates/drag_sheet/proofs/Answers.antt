@@ -63,7 +63,7 @@ Bounds (remove place) s count = place < count
 Bounds (setColumn k M R) s count = k < s .count
 
 pub bounds : (call : Call) (s : Settings) (count : ℕ) → argumentsTest call s count ≡ Passed → Bounds call s count
-bounds (replace place p) s count e = leb-false count place (unless-passed _ NoSuchPlace (both-passed (unless (leb count place) NoSuchPlace) (partTest p) e .first))
+bounds (replace place p) s count e = leb-false count place (unless-passed _ _ (both-passed (unless (leb count place) _) (partTest p) e .first))
 bounds (insert place p) s count e =
     let a = both-passed (unless (ltb count place) NoSuchPlace) _ e in
     let b = both-passed (unless (leb most-parts count) DesignFull) (partTest p) (a .second) in

@@ -1,9 +1,10 @@
 -- Any call on any sheet and cells: accepted, with what it leaves, or refused, with what was given. Nothing past the rows is written, and replacing a part writes
--- no row but its own, the next part's, friction, base and total.
+-- no row but its own, the next part's where there is one, friction, base and total.
 use mathlib.Core.Path.{_≡_, refl, sym, ap, _∙_, subst}
-use mathlib.Core.Logic.{_≢_}
+use mathlib.Core.Logic.{dite, _≢_}
 use mathlib.Core.List.{List}
-use Prim.Native.Nat.{ℕ, _+_, _≤_, _<_}
+use Prim.Native.Nat.{ℕ, _+_, _-_, _≤_, _<_}
+use native.Mathlib.Decide.{decLt, ℕ-discrete}
 use native.Mathlib.Omega.{arith}
 use lib.ListN.{length, drop, length-set}
 use lib.Seq.{length-take-le}
@@ -14,7 +15,7 @@ use Rattle.aero_error.specs.declared.Check.the-variants.{Passed, Failed}
 use Rattle.aero_error.specs.CheckLaws.{both-passed}
 use Rattle.sheet_data.specs.declared.Part.{Part}
 use Rattle.sheet_data.specs.declared.Sheet.{Sheet}
-use Rattle.sheet_data.specs.Layout.{most-parts, needed}
+use Rattle.sheet_data.specs.Layout.{most-parts, finishes, friction-row, base-row, total-row, all-rows, needed}
 use Rattle.sheet_data.specs.Contents.{Contents, contentsOf, partsOf}
 use Rattle.sheet_data.specs.Rows.{rowAt}
 use Rattle.drag_sheet.specs.declared.Answer.{Answer}
@@ -96,6 +97,22 @@ left call sheet xs a =
     let k = keeps new xs (omega (arith, ap needed w)) (scope call new) (subst (Inside (scope call new)) (sym w) (scope-inside call (contentsOf sheet) (a .within) (a .few))) in
     record { width = w; cells = record { long = k .long; past = subst (λ n. drop (needed n) (overwritten (scope call new) new xs) ≡ drop (needed n) xs) w (k .past) } }
 
+-- a row that is none of the friction, base and total rows
+pub record NotBody (row : ℕ) : Type 0 where
+  pub friction : (j : ℕ) → j < finishes → row ≢ friction-row j
+  pub base : row ≢ base-row finishes
+  pub total : (j : ℕ) → j < finishes → row ≢ total-row finishes j
+
+-- is a part's
+not-body : (row : ℕ) → row < all-rows finishes → NotBody row → row < most-parts
+not-body row h n =
+    dite (decLt row most-parts) (λ l. l) (λ l.
+    dite (decLt row (base-row finishes))
+    (λ m. absurd (n .friction (row - most-parts) (omega arith) (omega arith)))
+    (λ m. dite (ℕ-discrete row (base-row finishes))
+    (λ q. absurd (n .base q))
+    (λ q. absurd (n .total (row - total-row finishes 0) (omega arith) (omega arith)))))
+
 module _ (sheet : Sheet) (arrays : Arrays sheet) (xs : List Float) (r : Answer) (ys : List Float) where
   -- "Cells past 19 × C are never written"
   pub past-kept : (call : Call) → Called call sheet xs r ys → drop (needed (sheet .settings .count)) ys ≡ drop (needed (sheet .settings .count)) xs
@@ -105,14 +122,16 @@ module _ (sheet : Sheet) (arrays : Arrays sheet) (xs : List Float) (r : Answer) 
       by (refusal e p a l) = rw l
       by (accepted p a l) = rw l (left call sheet xs (shown call sheet xs (arrays .slots) p) .cells .past)
 
-  -- "Replacing a part changes no cells but its own row, the next part's, and the friction, base and total rows"
-  pub other-rows-kept : (place : ℕ) (p : Part) → Called (replace place p) sheet xs r ys → (row : ℕ) → row < most-parts → row ≢ place → row ≢ place + 1
+  -- "Replacing a part changes no cells but its own row, the next part's, and the friction, base and total rows": with no part after it the row there stays too
+  pub other-rows-kept : (place : ℕ) (p : Part) → Called (replace place p) sheet xs r ys → (row : ℕ) → row < all-rows finishes → NotBody row → row ≢ place → (row ≡ place + 1 → sheet .design .count ≤ place + 1)
       → rowAt (sheet .settings .count) ys row ≡ rowAt (sheet .settings .count) xs row
-  other-rows-kept place p c row h i j = by (ended (replace place p) sheet xs r ys c)
+  other-rows-kept place p c row h part i j = by (ended (replace place p) sheet xs r ys c)
     where
       by : Ended (replace place p) sheet xs r ys → rowAt (sheet .settings .count) ys row ≡ rowAt (sheet .settings .count) xs row
       by (refusal e q a l) = rw l
       by (accepted q a l) =
           let s = shown (replace place p) sheet xs (arrays .slots) q in
           let new = after (replace place p) sheet in
-          rw l (other-rows new xs (s .facts .fits .room) _ (scope-inside (replace place p) (contentsOf sheet) (s .within) (s .few)) row (omega arith) (body-not-part (contentsOf sheet) place p row h i j))
+          let few = not-body row h part in
+          let none : row ≡ place + 1 → length (new .parts) ≤ place + 1 = λ e. omega (arith, j e, s .long, length-set (partsOf (sheet .design)) place p) in
+          rw l (other-rows new xs (s .facts .fits .room) _ (scope-inside (replace place p) (contentsOf sheet) (s .within) (s .few)) row (omega arith) (body-not-part (contentsOf sheet) place p row few i none))

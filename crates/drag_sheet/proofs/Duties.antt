@@ -27,6 +27,7 @@ use Rattle.drag_sheet.specs.Build.{Kind, part, friction, base, total, ki
 use Rattle.drag_sheet.specs.Writing.{overwritten}
 use Rattle.drag_sheet.specs.Calls.{Call, replace, insert, remove, setColumn, withColumn, applied, tries, rowTestWhere, columnTrial, replacedRows, bodyRows, scope}
 use Rattle.drag_sheet.proofs.RowKinds.{kind-part}
+use Rattle.drag_sheet.proofs.Columns.{same-mach, same-reynolds}
 use Rattle.drag_sheet.proofs.Overwritten.{Holds, Inside, rows-hold, column-holds, whole-holds}
 use Rattle.drag_sheet.proofs.Laying.{body-below, body-outside}
 use Rattle.drag_sheet.proofs.Answers.{Bounds}
@@ -38,14 +39,14 @@ named-append [] ms r u v = v
 named-append (n ∷ ns) ms r u v = (u .0, named-append ns ms r (u .1) v)
 
 module _ (c : Contents) (place : ℕ) (p : Part) where
-  -- a part's row that is neither its own nor the next one isn't named
-  pub body-not-part : (r : ℕ) → r < most-parts → r ≢ place → r ≢ place + 1 → Unnamed (bodyRows ++ replacedRows place (length (set (c .parts) place p))) r
+  -- a part's row that is not its own isn't named, and the one after it only where a part stands there
+  pub body-not-part : (r : ℕ) → r < most-parts → r ≢ place → (r ≡ place + 1 → length (set (c .parts) place p) ≤ place + 1) → Unnamed (bodyRows ++ replacedRows place (length (set (c .parts) place p))) r
   unfolding bodyRows
   body-not-part r h a b = (
     (λ e. omega arith),
     named-append (from (friction-row 0) finishes) (replacedRows place (length (set (c .parts) place p))) r (before-all (friction-row 0) finishes r h)
         (dite (decLt (place + 1) (length (set (c .parts) place p)))
-        (λ l. rw (lt-ltb (place + 1) (length (set (c .parts) place p)) l) (b, (a, tt)))
+        (λ l. rw (lt-ltb (place + 1) (length (set (c .parts) place p)) l) ((λ e. omega (arith, b e)), (a, tt)))
         (λ l. rw (le-ltb (place + 1) (length (set (c .parts) place p)) (omega arith)) (a, tt))),
   )
 
@@ -103,9 +104,6 @@ module _ (c : Contents) (k : ℕ) (M R : Float) where
   abbrev put : Contents
   put = applied (setColumn k M R) c
 
-  same-mach : (i : ℕ) → i ≢ k → machAt (withColumn (c .settings) k M R) i ≡ machAt (c .settings) i
-  same-mach i u = getD-set-other (c .settings .machs) k i M nan u
-
   other-kind : (kind : Kind) (N S : Float) → kindCell c kind N S ≡ kindCell put kind N S
   unfolding kindCell partCell frictionCell baseCell
   other-kind (part i) N S = refl
@@ -114,13 +112,13 @@ module _ (c : Contents) (k : ℕ) (M R : Float) where
   other-kind (total j) N S = refl
 
   other-column : (r i : ℕ) → i ≢ k → cellAt c r i ≡ cellAt put r i
-  other-column r i u = rw (same-mach i u, getD-set-other (c .settings .reynolds) k i R nan u) (other-kind (kindAt finishes r) (machAt (c .settings) i) (reynoldsAt (c .settings) i))
+  other-column r i u = rw (same-mach (c .settings) k M R i u, same-reynolds (c .settings) k M R i u) (other-kind (kindAt finishes r) (machAt (c .settings) i) (reynoldsAt (c .settings) i))
 
   column-tries : k < c .settings .count → trial c ≡ Passed → tries (setColumn k M R) put ≡ trial put
   unfolding tries trial rowTest columnTrial
   column-tries h ok = up-same _ _ (length (c .parts)) (λ i l.
       let b = both-passed (readyTest (preparedAt c i)) _ (up-each _ (length (c .parts)) ok i l) in
-      ap (λ t. readyTest (preparedAt c i) then t) (sym (up-only _ k (c .settings .count) h (λ j m u. rw (same-mach j u) (up-each _ (c .settings .count) (b .second) j m)))))
+      ap (λ t. readyTest (preparedAt c i) then t) (sym (up-only _ k (c .settings .count) h (λ j m u. rw (same-mach (c .settings) k M R j u) (up-each _ (c .settings .count) (b .second) j m)))))
 
 -- ---- every call
 

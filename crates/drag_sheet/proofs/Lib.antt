@@ -6,9 +6,15 @@ pub mod Taken
 pub mod Overwritten
 pub mod MadeRows
 pub mod Laying
+pub mod Refusals
+pub mod Absent
 pub mod Answers
+pub mod Columns
 pub mod OneColumn
 pub mod Changed
 pub mod Duties
 pub mod CallLaws
 pub mod ListsLaw
+pub mod TestsKept
+pub mod OnlyCurves
+pub mod Places

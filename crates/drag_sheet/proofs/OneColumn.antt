@@ -4,7 +4,6 @@ use mathlib.Core.List.{List}
 use Prim.Native.Nat.{ℕ, zero, suc, _<_}
 use native.Mathlib.Omega.{arith}
 use lib.ListN.{length, getD, set, replicate}
-use lib.Seq.{getD-set-same}
 use lib.Ieee.{Float, nan}
 use Rattle.aero_error.specs.declared.Check.{Check}
 use Rattle.aero_error.specs.Checks.{_then_, upTo}
@@ -19,6 +18,7 @@ use Rattle.drag_sheet.specs.Formulas.{cellFrom, readyTest, madeTest, fri
 use Rattle.drag_sheet.specs.Build.{Kind, part, friction, base, total, kindAt, preparedAt, partCell, kindCell, rowTest, trial, cellAt, rowOf, build}
 use Rattle.drag_sheet.specs.Calls.{withColumn, columnTrial}
 use Rattle.drag_sheet.specs.Edits.{oneColumn}
+use Rattle.drag_sheet.proofs.Columns.{new-mach, new-reynolds}
 
 module _ (s : Settings) (ps : List Part) (k : ℕ) (M R : Float) (machs : k < length (s .machs)) (reynolds : k < length (s .reynolds)) where
   -- the sheet with that column alone, and the sheet with that column put anew
@@ -28,15 +28,9 @@ module _ (s : Settings) (ps : List Part) (k : ℕ) (M R : Float) (machs : k < le
   abbrev put : Contents
   put = record { settings = withColumn s k M R; parts = ps }
 
-  new-mach : machAt (withColumn s k M R) k ≡ M
-  new-mach = getD-set-same (s .machs) k M nan machs
-
-  new-reynolds : reynoldsAt (withColumn s k M R) k ≡ R
-  new-reynolds = getD-set-same (s .reynolds) k R nan reynolds
-
   pub column-tried : trial (record { settings = oneColumn s M R; parts = ps }) ≡ columnTrial k (record { settings = withColumn s k M R; parts = ps })
   unfolding trial rowTest columnTrial
-  column-tried = up-same _ _ (length ps) (λ i l. ap (λ t. readyTest (preparedAt lone i) then t) (up-one _ ∙ rw new-mach))
+  column-tried = up-same _ _ (length ps) (λ i l. ap (λ t. readyTest (preparedAt lone i) then t) (up-one _ ∙ rw (new-mach s k M R machs)))
 
   -- a cell depends on the settings only where they are the same
   same-kind : (kind : Kind) → kindCell lone kind M R ≡ kindCell put kind M R
@@ -53,4 +47,4 @@ module _ (s : Settings) (ps : List Part) (k : ℕ) (M R : Float) (machs : k < le
 
   pub column-built : build (record { settings = oneColumn s M R; parts = ps }) ≡ tab (all-rows finishes) (λ r. cellAt (record { settings = withColumn s k M R; parts = ps }) r k)
   unfolding build
-  column-built = one-each (all-rows finishes) (cellAt lone) (λ r. cellAt put r k) (λ r. same-kind (kindAt finishes r) ∙ rw (new-mach, new-reynolds))
+  column-built = one-each (all-rows finishes) (cellAt lone) (λ r. cellAt put r k) (λ r. same-kind (kindAt finishes r) ∙ rw (new-mach s k M R machs, new-reynolds s k M R reynolds))

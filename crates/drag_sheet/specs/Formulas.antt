@@ -71,7 +71,7 @@ abbrev pub madeTest : Coefficient → Check
 madeTest (Value v) = Passed
 madeTest (Refused e) = Failed e
 
--- a coefficient that the tests before have made sure of: never a refusal once they have passed
+-- a coefficient that the tests before have made sure of: once they have passed it is no refusal (proofs/OnlyCurves, `body-answered` and `row-ready`)
 abbrev pub valueOf : Coefficient → Float
 valueOf (Value v) = v
 valueOf (Refused e) = 0·0

@@ -2,6 +2,7 @@
 use mathlib.Core.Path.{_≡_, refl, sym, ap, _∙_}
 use native.Mathlib.Omega.{arith}
 use lib.ListN.{length, length-map}
+use Rattle.sheet_data.specs.declared.Design.{Design}
 use Rattle.drag_sheet.specs.Calls.{replace}
 use Rattle.drag_sheet.proofs.Answers.{Facts, call-facts, bounds, called-refused}
 use Rattle.drag_sheet.proofs.Changed.{replaced-sheet, called-changed}
@@ -26,7 +27,9 @@ write-changed-requires : tie.Need-write-changed-requires
 write-changed-requires c κs =
     let s = c .before .before .before .before .before .before .before in
     let f = facts (c .before .before .before) in
-    rw (c .before .replaced-in .ensures) (record { columns = f .fits .columns; parts = f .fits .parts; room = f .fits .room }, bounds (replace (s .args .place) (s .args .part)) (s .args .sheet .settings) (s .args .sheet .design .count) (f .arguments))
+    let same = ap (λ (d : Design). d .count) (c .before .replaced-in .ensures) in
+    let inside = bounds (replace (s .args .place) (s .args .part)) (s .args .sheet .settings) (s .args .sheet .design .count) (f .arguments) in
+    (record { columns = f .fits .columns; parts = omega (arith, f .fits .parts); room = f .fits .room }, omega arith)
 
 returns-2 : tie.Need-returns-2
 returns-2 c =
@@ -35,7 +38,8 @@ returns-2 c =
     let f = facts e in
     let b = bounds (replace (s .args .place) (s .args .part)) (s .args .sheet .settings) (s .args .sheet .design .count) (f .arguments) in
     called-changed (s .args .sheet) _ (s .args .place) (s .args .part) (s .args .cells .now) _ _ _ (sym (e .before .before .check-replace .ensures) ∙ e .enum-told .given .1)
-    (rw (c .before .before .before .before .before .replaced-in .ensures) (replaced-sheet (s .args .sheet) (simp length-map at (s .good .0 .1 .1 .1 .0 .1 .1 .1 .0 .1 .0 .1)) (f .fits .parts) (s .args .place) (s .args .part) b))
+    (ap (λ (d : Design). record { settings = s .args .sheet .settings; design = d }) (c .before .before .before .before .before .replaced-in .ensures)
+    ∙ replaced-sheet (s .args .sheet) (simp length-map at (s .good .0 .1 .1 .1 .0 .1 .1 .1 .0 .1 .0 .1)) (f .fits .parts) (s .args .place) (s .args .part) b)
     (c .before .before .before .write-changed .ensures) (c .answer-for .ensures)
 
 pub replace-spec : {M : Type 1} → statement M

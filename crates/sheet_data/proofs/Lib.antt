@@ -1,0 +1,2 @@
+-- A law of the order of tests.
+pub mod Order
