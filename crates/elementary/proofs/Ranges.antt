@@ -1,7 +1,7 @@
 -- Lower bounds and differences, beside the bounds of `Bounds`: what is at or above a number, how large the difference of two numbers without a sign is,
 -- whole numbers as floats, and how a bound goes through a series.
 use mathlib.Core.Path.{_≡_, refl, sym, ap, _∙_, subst}
-use mathlib.Core.Bool.{Bool, true, false, cond, _&&_, true≢false}
+use mathlib.Core.Bool.{Bool, true, false, cond, _&&_, _||_, true≢false}
 use mathlib.Core.List.{List, [], _∷_}
 use Prim.Native.Nat.{ℕ, zero, suc, _+_, _-_, _*_, _^_, _≤_, _<_}
 use native.Mathlib.Nat.{mul-assoc, mul-comm, mul-left-comm, mul-right-comm, mul-pos, mul-le-mul-right, mul-le-mul-left, le-of-mul-le-mul-right, le-trans, le-of-eq, mul-one, one-mul, add-mul, add-zero}
@@ -10,7 +10,7 @@ use lib.IntN.{ℤ, pos}
 use lib.Dec.{T, ltb, leb, lit<, lit≤, ltb→lt, leb→le}
 use lib.Pow.{pow-add, pow-pos}
 use lib.ListN.{length}
-use lib.Ieee.{Float, nan, inf, fin, binary64, up, down, round, sum, add, sub, neg, lt, ofInt, ofBits}
+use lib.Ieee.{Float, nan, inf, fin, binary64, up, down, round, sum, add, sub, neg, lt, eq, le, ofInt, ofBits}
 use lib.Ieee.Scale.{finite}
 use lib.Ieee.Fits.{down-pos, up-pos, and-l, and-r}
 use lib.Ieee.Exact.{HasValue}
@@ -54,6 +54,13 @@ positive-from x y p f h = go y f (above-of-le x y p h)
     go (fin true m e) f a = absurd a
     go (fin false m e) f a = a
 
+-- which has no sign
+pub positive-unsigned : (x : Float) → T (positive x) → T (unsigned x)
+positive-unsigned nan p = absurd p
+positive-unsigned (inf s) p = absurd p
+positive-unsigned (fin true m e) p = absurd p
+positive-unsigned (fin false m e) p = tt
+
 -- a lower bound of x is one of what is at or above x
 pub least-from : (x y : Float) (q : ℕ) → T (positive x) → Least q x → T (x ≼ y) → Least q y
 least-from nan y q p l h = absurd p
@@ -72,6 +79,31 @@ least-from (fin false m e) y q p l h = go y (above-of-le (fin false m e) y p h) 
         (le-trans (le-of-eq (mul-comm (down d) (down e)))
         (le-trans i (le-trans (le-of-eq (mul-assoc q (m * up e) (down d))) (le-trans j (le-of-eq (sym (mul-assoc q (n * up d) (down e))))))))
         (down-pos e)
+
+-- and an upper bound of y one of what is at or below y and above zero
+pub within-under : (x y : Float) (n : ℕ) → T (positive x) → T (x ≼ y) → Within n y → Within n x
+within-under x nan n p h w = absurd w
+within-under x (inf t) n p h w = absurd w
+within-under x (fin t l d) n p h w = go t x p h (above-of-le x (fin t l d) p h)
+  where
+    go : (s : Bool) (z : Float) → T (positive z) → T (z ≼ fin s l d) → T (above (fin s l d)) → Within n z
+    go s nan q k a = absurd q
+    go s (inf r) q k a = absurd q
+    go s (fin true m e) q k a = absurd q
+    go true (fin false m e) q k a = absurd a
+    go false (fin false m e) q k a =
+        le-of-mul-le-mul-right
+        (le-trans (le→cross (fin false m e) (fin false l d) q a k) (le-trans (mul-le-mul-right (down e) w) (le-of-eq (mul-right-comm n (down d) (down e)))))
+        (down-pos d)
+
+neither : (a b : Bool) → (a || b) ≡ false → a ≡ false
+neither true b h = h
+neither false b h = refl
+
+-- what is above zero and not at or above y is at or below it
+pub stays-under : (x y : Float) → T (positive x) → T (finite y) → (y ≼ x) ≡ false → T (x ≼ y)
+unfolding le
+stays-under x y p f h = reaches x y p f (neither (lt y x) (eq y x) h)
 
 -- a fraction of one q-th or more, where one q-th is the float x
 pub round-least : (x : Float) (a c q : ℕ) → 0 < q → round binary64 false 1 q ≡ x → T (positive x) → Least q x → 0 < c → c ≤ q * a → Least q (round binary64 false a c)
