@@ -1,15 +1,14 @@
 -- EXP of a number of at most 320 in size is at most 2 ^ 785, and so is POW of a number from 1/2 to 2 to an exponent of at most 13 in size. Then k is at most
 -- 642 in size and r at most 2 ^ 10, each of the thirteen steps of the series multiplies the bound by 2 ^ 11, and the scaling by 2 ^ 642.
-use mathlib.Core.Path.{_≡_, refl, sym, ap, _∙_, subst}
-use mathlib.Core.Bool.{Bool, true, false, cond, _||_}
-use mathlib.Core.List.{List, [], _∷_}
+use mathlib.Core.Path.{_≡_, refl, sym, _∙_}
+use mathlib.Core.Bool.{Bool, true, false, cond}
+use mathlib.Core.List.{[], _∷_}
 use Prim.Native.Nat.{ℕ, zero, suc, _+_, _-_, _*_, _/_, _^_, _≤_, _<_}
-use native.Mathlib.Nat.{mul-one, one-mul, mul-pos, mul-le-mul, le-of-eq, le-refl, two-pow-succ, zero-mul}
+use native.Mathlib.Nat.{mul-one, one-mul, mul-pos, le-of-eq, two-pow-succ}
 use native.Mathlib.Omega.{arith}
-use lib.IntN.{ℤ, pos, negsuc}
-use lib.Dec.{T, ltb, eqb, lit<, lit≤, lt→ltb, ltb→lt}
+use lib.Dec.{T, lit<, lit≤, lt→ltb, ltb→lt}
 use lib.Pow.{pow-pos, pow-mono}
-use lib.Ieee.{Float, nan, inf, fin, binary64, up, down, neg, lt, le, eq, isNan, fits, ofBits}
+use lib.Ieee.{Float, nan, inf, fin, binary64, up, down, neg, lt, eq, isNan, fits, ofBits}
 use lib.Ieee.Fits.{up-pos, down-pos}
 use lib.Ieee.Positive.{positive}
 use borrow.Author.Tests.{le-ltb, ne-eqb}
@@ -19,10 +18,10 @@ use Rattle.elementary.specs.Constants.{0·0, 0·5, 1·0, «LN_2», 710·
 use Rattle.elementary.specs.Split.{floorOf, Within, two^, signed}
 use Rattle.elementary.specs.Steps.{expSeries, wholeOf, scaled, expSteps, EXP, LN, powSteps, POW}
 use Rattle.elementary.specs.Order.{not-at-most}
-use Rattle.elementary.proofs.Sizes.{Fine, small, power, within-more, quotient-within, half-more-within, floor-within}
+use Rattle.elementary.proofs.Sizes.{small, power, within-more, quotient-within, half-more-within, floor-within}
 use Rattle.elementary.proofs.Bounds.{Least, add-within, sub-within, mul-within, div-within, neg-within}
 use Rattle.elementary.proofs.Ranges.{whole-within, whole-least, one-within, power-times, through-within}
-use Rattle.elementary.proofs.LnBound.{ln-within}
+use Rattle.elementary.proofs.LnBound.{ln-two-within, ln-within}
 
 -- ---- the series
 
@@ -43,10 +42,10 @@ series-within r w =
 
 -- ---- the scaling
 
-two-within : (s : Bool) (n : ℕ) → Within (2 ^ n) (two^ (signed s n))
-two-within false n = le-of-eq (one-mul (2 ^ n) ∙ sym (mul-one (2 ^ n)))
-two-within true zero = lit≤ tt
-two-within true (suc n) = mul-pos (pow-pos (suc n)) (pow-pos (suc n))
+power-within : (s : Bool) (n : ℕ) → Within (2 ^ n) (two^ (signed s n))
+power-within false n = le-of-eq (one-mul (2 ^ n) ∙ sym (mul-one (2 ^ n)))
+power-within true zero = lit≤ tt
+power-within true (suc n) = mul-pos (pow-pos (suc n)) (pow-pos (suc n))
 
 scaled-within : (p : Float) (k : Whole) (i : ℕ) → i + k .size ≤ 1023 → Within (2 ^ i) p → Within (2 ^ (i + k .size)) (scaled p k)
 scaled-within p k i l w =
@@ -54,7 +53,7 @@ scaled-within p k i l w =
     let s = k .negative in
     let e : i + h + (k .size - h) ≡ i + k .size = omega arith in
     rw e at (power-times (p ⊗ two^ (signed s h)) (two^ (signed s (k .size - h))) (i + h) (k .size - h) (omega arith)
-    (power-times p (two^ (signed s h)) i h (omega arith) w (two-within s h)) (two-within s (k .size - h)))
+    (power-times p (two^ (signed s h)) i h (omega arith) w (power-within s h)) (power-within s (k .size - h)))
 
 -- ---- EXP
 
@@ -64,10 +63,6 @@ whole-of-within k h = go (k .negative)
     go : (s : Bool) → Within (k .size) (cond s (neg (whole (k .size))) (whole (k .size)))
     go true = neg-within (whole (k .size)) (k .size) (whole-within (k .size) h)
     go false = whole-within (k .size) h
-
-ln-two-within : Within 1 «LN_2»
-unfolding ofBits
-ln-two-within = lit≤ tt
 
 exp-steps-within : (y : Float) → Within 320 y → Within (2 ^ 785) (expSteps y)
 unfolding expSteps

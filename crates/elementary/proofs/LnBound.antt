@@ -2,24 +2,24 @@
 -- adds at most 1.
 use mathlib.Core.Path.{_≡_, refl, sym, ap, _∙_, subst}
 use mathlib.Core.Bool.{Bool, true, false, cond}
-use mathlib.Core.List.{List, [], _∷_}
+use mathlib.Core.List.{[], _∷_}
 use Prim.Native.Nat.{ℕ, zero, suc, _+_, _*_, _^_, _≤_, _<_}
-use native.Mathlib.Nat.{mul-assoc, mul-comm, mul-right-comm, mul-one, mul-le-mul-right, mul-lt-mul-of-pos-left, le-of-mul-le-mul-right, le-trans, le-of-eq, le-of-lt, lt-of-le-of-lt, lt-of-lt-of-le, lt-of-not-le, not-le-of-lt}
+use native.Mathlib.Nat.{mul-assoc, mul-comm, mul-one, mul-le-mul-right, mul-lt-mul-of-pos-left, le-of-mul-le-mul-right, le-trans, le-of-eq, le-of-lt, lt-of-le-of-lt, lt-of-lt-of-le, lt-of-not-le, not-le-of-lt}
 use native.Mathlib.Omega.{arith}
 use lib.IntN.{ℤ}
 use lib.Dec.{T, lit<, lit≤}
-use lib.Pow.{pow-add, pow-pos, pow-mono, pow-lt}
-use lib.Ieee.{Float, nan, inf, fin, binary64, up, down, size, round, fits, ofBits}
-use lib.Ieee.Digits.{size-lt, size-le}
+use lib.Pow.{pow-add, pow-pos, pow-mono}
+use lib.Ieee.{Float, nan, inf, fin, binary64, up, down, size, fits, ofBits}
+use lib.Ieee.Digits.{size-lt}
 use lib.Ieee.Fits.{down-pos}
 use lib.Ieee.Positive.{positive, mul-at}
-use borrow.Author.Tests.{lt-ltb}
 use Rattle.elementary.specs.Arithmetic.{_⊕_, _⊖_, _⊗_, _⊘_, _≺_, whole}
 use Rattle.elementary.specs.Constants.{0·5, 1·0, 2·0, 1·4142135623730951, «LN_2», ulp-of-one}
-use Rattle.elementary.specs.Split.{units, normalised, splitOf, Within, Taken}
+use Rattle.elementary.specs.Split.{units, normalised, splitOf, Within}
 use Rattle.elementary.specs.Steps.{lnSeries, lnSum, lnSteps, LN}
 use Rattle.elementary.proofs.Bits.{held, in-units, taken-units}
-use Rattle.elementary.proofs.Sizes.{Fine, small, round-within}
+use Rattle.elementary.proofs.Value.{size-within}
+use Rattle.elementary.proofs.Sizes.{small, round-within}
 use Rattle.elementary.proofs.Bounds.{Least, add-within, mul-within, div-within, within-finite}
 use Rattle.elementary.proofs.Same.{unsigned, mul-unsigned}
 use Rattle.elementary.proofs.Ranges.{one-more-least, less-one-within, whole-value, whole-least, whole-positive, whole-gap, one-within, through-within}
@@ -42,9 +42,17 @@ series-within u w =
 
 -- ---- the sum
 
-constants-within : Within 2 2·0 × Within 1 «LN_2» × Within 1 0·5
+pub ln-two-within : Within 1 «LN_2»
 unfolding ofBits
-constants-within = (lit≤ tt, lit≤ tt, lit≤ tt)
+ln-two-within = lit≤ tt
+
+two-within : Within 2 2·0
+unfolding ofBits
+two-within = lit≤ tt
+
+half-within : Within 1 0·5
+unfolding ofBits
+half-within = lit≤ tt
 
 ln-sum-within : (m : Float) (d n : ℕ) → n ≤ 2000 → T (unsigned m) → Within 2 m → Within n (whole d ⊖ whole 1075) → Within (n + 22) (lnSum m d)
 unfolding lnSum
@@ -54,9 +62,9 @@ ln-sum-within m d n l s w h =
     let one = small 1 (lit< tt) in
     let a : Within 1 t = div-within (m ⊖ 1·0) (m ⊕ 1·0) 1 1 one (less-one-within m s w) (one-more-least m (within-finite m 2 w) s) in
     let b : Within 11 (lnSeries u) = series-within u (mul-within t t 1 1 one a a) in
-    let c : Within n ((whole d ⊖ whole 1075) ⊗ «LN_2») = rw (mul-one n) at (mul-within (whole d ⊖ whole 1075) «LN_2» n 1 (small (n * 1) (omega arith)) h (constants-within .1)) in
+    let c : Within n ((whole d ⊖ whole 1075) ⊗ «LN_2») = rw (mul-one n) at (mul-within (whole d ⊖ whole 1075) «LN_2» n 1 (small (n * 1) (omega arith)) h ln-two-within) in
     add-within ((whole d ⊖ whole 1075) ⊗ «LN_2») (2·0 ⊗ t ⊗ lnSeries u) n 22 (small (n + 22) (omega arith)) c
-    (mul-within (2·0 ⊗ t) (lnSeries u) 2 11 (small 22 (lit< tt)) (mul-within 2·0 t 2 1 (small 2 (lit< tt)) (constants-within .0) a) b)
+    (mul-within (2·0 ⊗ t) (lnSeries u) 2 11 (small 22 (lit< tt)) (mul-within 2·0 t 2 1 (small 2 (lit< tt)) two-within a) b)
 
 -- ---- the significand over 2 ^ 52
 
@@ -86,35 +94,25 @@ module _ (g : ℕ) (some : 0 < g) (narrow : g < 2 ^ 53) where
       go : (b : Bool) → Within (n + 22) (cond b (lnSum (0·5 ⊗ (whole g ⊗ ulp-of-one)) (d + 1)) (lnSum (whole g ⊗ ulp-of-one) d))
       go true =
           ln-sum-within (0·5 ⊗ (whole g ⊗ ulp-of-one)) (d + 1) n l half-unsigned
-          (mul-within 0·5 (whole g ⊗ ulp-of-one) 1 2 (small 2 (lit< tt)) (constants-within .2) significand-within) (gap (d + 1) h (omega arith))
+          (mul-within 0·5 (whole g ⊗ ulp-of-one) 1 2 (small 2 (lit< tt)) half-within significand-within) (gap (d + 1) h (omega arith))
       go false = ln-sum-within (whole g ⊗ ulp-of-one) d n l significand-unsigned significand-within (gap d (omega arith) k)
 
--- ---- the digits of a number from 2 ^ -k to 2 ^ k
-
-module _ (m : ℕ) (e : ℤ) (k : ℕ) (h : T (fits binary64 (fin false (suc m) e))) where
-  few-digits : Within (2 ^ k) (fin false (suc m) e) → size (units (suc m) e) ≤ 1075 + k
-  few-digits w =
-      let u = in-units m e (held false m e h) in
-      let n = units (suc m) e in
-      let l : n * down e ≤ 2 ^ (k + 1074) * down e =
-      le-trans (le-of-eq (sym (u .exact)))
-      (le-trans (mul-le-mul-right (2 ^ 1074) w) (le-of-eq (mul-right-comm (2 ^ k) (down e) (2 ^ 1074) ∙ ap (λ (z : ℕ). z * down e) (sym (pow-add 2 k 1074))))) in
-      size-le n (1075 + k) (lt-of-le-of-lt (le-of-mul-le-mul-right l (down-pos e)) (pow-lt {i = k + 1074} {j = 1075 + k} (omega arith)))
-
-  enough-digits : Least (2 ^ k) (fin false (suc m) e) → 1075 ≤ size (units (suc m) e) + k
-  enough-digits w =
-      let u = in-units m e (held false m e h) in
-      let n = units (suc m) e in
-      let l : 2 ^ 1074 * down e ≤ 2 ^ k * n * down e =
-      le-trans (le-of-eq (mul-comm (2 ^ 1074) (down e)))
-      (le-trans (mul-le-mul-right (2 ^ 1074) w)
-      (le-of-eq (mul-assoc (2 ^ k) (suc m * up e) (2 ^ 1074) ∙ ap (λ (z : ℕ). 2 ^ k * z) (u .exact) ∙ sym (mul-assoc (2 ^ k) n (down e))))) in
-      let less : 2 ^ 1074 < 2 ^ (size n + k) =
-      lt-of-le-of-lt (le-of-mul-le-mul-right l (down-pos e))
-      (lt-of-lt-of-le (mul-lt-mul-of-pos-left (size-lt n) (pow-pos k)) (le-of-eq (mul-comm (2 ^ k) (2 ^ size n) ∙ sym (pow-add 2 (size n) k)))) in
-      lt-of-not-le (λ (g : size n + k ≤ 1074). not-le-of-lt less (pow-mono g))
-
 -- ---- LN
+
+-- a number of 2 ^ -k or more has at least 1075 - k digits
+enough-digits : (m : ℕ) (e : ℤ) (k : ℕ) → T (fits binary64 (fin false (suc m) e)) → Least (2 ^ k) (fin false (suc m) e) → 1075 ≤ size (units (suc m) e) + k
+enough-digits m e k h w =
+    let u = in-units m e (held false m e h) in
+    let n = units (suc m) e in
+    let l : 2 ^ 1074 * down e ≤ 2 ^ k * n * down e =
+    le-trans (le-of-eq (mul-comm (2 ^ 1074) (down e)))
+    (le-trans (mul-le-mul-right (2 ^ 1074) w)
+    (le-of-eq (mul-assoc (2 ^ k) (suc m * up e) (2 ^ 1074) ∙ ap (λ (z : ℕ). 2 ^ k * z) (u .exact) ∙ sym (mul-assoc (2 ^ k) n (down e))))) in
+    let less : 2 ^ 1074 < 2 ^ (size n + k) =
+    lt-of-le-of-lt (le-of-mul-le-mul-right l (down-pos e))
+    (lt-of-lt-of-le (mul-lt-mul-of-pos-left (size-lt n) (pow-pos k)) (le-of-eq (mul-comm (2 ^ k) (2 ^ size n) ∙ sym (pow-add 2 (size n) k)))) in
+    lt-of-not-le (λ (g : size n + k ≤ 1074). not-le-of-lt less (pow-mono g))
+
 pub ln-within : (x : Float) (k : ℕ) → k ≤ 1074 → T (fits binary64 x) → T (positive x) → Within (2 ^ k) x → Least (2 ^ k) x → Within (k + 23) (LN x)
 unfolding LN splitOf
 ln-within nan k l h p w b = absurd p
@@ -125,7 +123,7 @@ ln-within (fin false (suc m) e) k l h p w b =
     let u = in-units m e (held false m e h) in
     let n = units (suc m) e in
     let t = taken-units n (u .some) (u .few) in
-    let few = few-digits m e k h w in
+    let few = size-within false m e k h w in
     let enough = enough-digits m e k h b in
     let c : k + 1 + 22 ≡ k + 23 = omega arith in
     rw c at (ln-steps-within (normalised n (size n)) (omega (arith, t .full)) (t .narrow) (size n) (k + 1) (omega arith) (omega arith) (omega arith))

@@ -1,14 +1,14 @@
 -- Lower bounds and differences, beside the bounds of `Bounds`: what is at or above a number, how large the difference of two numbers without a sign is,
 -- whole numbers as floats, and how a bound goes through a series.
 use mathlib.Core.Path.{_≡_, refl, sym, ap, _∙_, subst}
-use mathlib.Core.Bool.{Bool, true, false, cond, _&&_, _||_, true≢false}
+use mathlib.Core.Bool.{Bool, true, false, cond, _&&_, true≢false}
 use mathlib.Core.List.{List, [], _∷_}
-use Prim.Native.Nat.{ℕ, zero, suc, _+_, _-_, _*_, _^_, _≤_, _<_}
-use native.Mathlib.Nat.{mul-assoc, mul-comm, mul-left-comm, mul-right-comm, mul-pos, mul-le-mul-right, mul-le-mul-left, le-of-mul-le-mul-right, le-trans, le-of-eq, mul-one, one-mul, add-mul, add-zero}
+use Prim.Native.Nat.{ℕ, suc, _+_, _-_, _*_, _^_, _≤_, _<_}
+use native.Mathlib.Nat.{mul-assoc, mul-comm, mul-right-comm, mul-pos, mul-le-mul-right, mul-le-mul-left, le-of-mul-le-mul-right, le-trans, le-of-eq, mul-one, one-mul, add-mul, add-zero}
 use native.Mathlib.Omega.{arith}
-use lib.IntN.{ℤ, pos}
+use lib.IntN.{pos}
 use lib.Dec.{T, ltb, leb, lit<, lit≤, ltb→lt, leb→le}
-use lib.Pow.{pow-add, pow-pos}
+use lib.Pow.{pow-add}
 use lib.ListN.{length}
 use lib.Ieee.{Float, nan, inf, fin, binary64, up, down, round, sum, add, sub, neg, lt, eq, le, ofInt, ofBits}
 use lib.Ieee.Scale.{finite}
@@ -22,7 +22,7 @@ use Rattle.elementary.specs.Arithmetic.{_⊕_, _⊖_, _⊗_, _≺_, _≼
 use Rattle.elementary.specs.Constants.{1·0}
 use Rattle.elementary.specs.Steps.{through}
 use Rattle.elementary.specs.Split.{Within}
-use Rattle.elementary.proofs.Sizes.{Fine, small, power, round-within}
+use Rattle.elementary.proofs.Sizes.{Fine, small, power, round-within, not-or}
 use Rattle.elementary.proofs.Bounds.{Least, mul-within}
 use Rattle.elementary.proofs.Same.{unsigned}
 
@@ -96,14 +96,10 @@ within-under x (fin t l d) n p h w = go t x p h (above-of-le x (fin t l d) p h)
         (le-trans (le→cross (fin false m e) (fin false l d) q a k) (le-trans (mul-le-mul-right (down e) w) (le-of-eq (mul-right-comm n (down d) (down e)))))
         (down-pos d)
 
-neither : (a b : Bool) → (a || b) ≡ false → a ≡ false
-neither true b h = h
-neither false b h = refl
-
 -- what is above zero and not at or above y is at or below it
 pub stays-under : (x y : Float) → T (positive x) → T (finite y) → (y ≼ x) ≡ false → T (x ≼ y)
 unfolding le
-stays-under x y p f h = reaches x y p f (neither (lt y x) (eq y x) h)
+stays-under x y p f h = reaches x y p f (not-or (lt y x) (eq y x) h)
 
 -- a fraction of one q-th or more, where one q-th is the float x
 pub round-least : (x : Float) (a c q : ℕ) → 0 < q → round binary64 false 1 q ≡ x → T (positive x) → Least q x → 0 < c → c ≤ q * a → Least q (round binary64 false a c)
@@ -124,6 +120,7 @@ one-more-least (fin true m e) f u = absurd u
 one-more-least (fin false m e) f u =
     let c = down e * 1 in
     round-least (fin false 1 (pos 0)) (m * up e * 1 + 1 * 1 * down e) c 1 (lit< tt) one tt (lit≤ tt) (mul-pos (down-pos e) (lit< tt)) (omega arith)
+
 -- ---- the difference of two numbers without a sign
 
 gap-within : (a b c n : ℕ) → 0 < c → Fine n → a ≤ b + n * c → b ≤ a + n * c → Within n (sum binary64 false a true b c)

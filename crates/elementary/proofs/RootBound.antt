@@ -1,9 +1,8 @@
 -- The root of a number of 1/4 or more is 1/2 or more, by what SQRT is: were it below, then 1/2 would be nearer.
-use mathlib.Core.Path.{_≡_, refl, sym, ap, _∙_, subst}
-use mathlib.Core.Bool.{Bool, true, false}
-use Prim.Native.Nat.{ℕ, zero, suc, _+_, _-_, _*_, _/_, _^_, _≤_, _<_}
-use native.Mathlib.Nat.{mul-assoc, mul-comm, mul-right-comm, mul-le-mul, mul-le-mul-right, mul-pos, mul-le-mul-left, le-of-mul-le-mul-right, mul-pos, le-div-iff-mul-le, le-trans, le-of-eq, lt-of-lt-of-le, lt-of-not-le, not-le-of-lt, le-of-suc-le-suc, zero-mul}
-use native.Mathlib.Decide.{decLe}
+use mathlib.Core.Path.{_≡_, refl, sym, subst}
+use mathlib.Core.Bool.{true, false}
+use Prim.Native.Nat.{ℕ, zero, suc, _+_, _-_, _*_, _^_, _≤_, _<_}
+use native.Mathlib.Nat.{mul-le-mul, mul-le-mul-right, mul-pos, mul-le-mul-left, le-of-mul-le-mul-right, mul-pos, le-div-iff-mul-le, lt-of-not-le, le-of-suc-le-suc, zero-mul}
 use native.Mathlib.Omega.{arith}
 use lib.IntN.{ℤ, pos, negsuc}
 use lib.Dec.{T, lit<, lit≤}
@@ -16,7 +15,7 @@ use Rattle.elementary.specs.Arithmetic.{_⊖_, _≼_}
 use Rattle.elementary.specs.Constants.{1·0}
 use Rattle.elementary.specs.Split.{units}
 use Rattle.elementary.specs.Steps.{SQRT}
-use Rattle.elementary.specs.Nearest.{unitsOf, NearestRoot}
+use Rattle.elementary.specs.Nearest.{NearestRoot}
 use Rattle.elementary.proofs.Bounds.{Least}
 use Rattle.elementary.proofs.Same.{unsigned, sub-unsigned}
 use Rattle.elementary.proofs.Ranges.{round-least}

@@ -1,17 +1,16 @@
 -- The 3:1 cone's whole curve is bounded from Mach 0.8 on. Below Mach 1 it is a power of a number from 1/2 to 1, between Mach 1 and 1.3 a cubic, and from Mach 1.3
 -- on a quotient by a root of 1/2 or more, +infinity included.
-use mathlib.Core.Path.{_≡_, refl, sym, ap, _∙_, subst}
-use mathlib.Core.Bool.{Bool, true, false, cond, _&&_}
-use Prim.Native.Nat.{ℕ, zero, suc, _+_, _*_, _^_, _≤_}
+use mathlib.Core.Path.{_≡_, refl, sym, subst}
+use mathlib.Core.Bool.{Bool, true, false, _&&_}
+use Prim.Native.Nat.{ℕ, zero, suc, _*_, _^_}
 use native.Mathlib.Nat.{mul-one, one-mul}
 use native.Mathlib.Omega.{arith}
-use lib.IntN.{pos, negsuc}
 use lib.Dec.{T, lit<, lit≤}
 use lib.Ieee.{Float, nan, inf, fin, binary64, up, down, fits, ofBits, ofInt, round, sum, neg, add, sub, mul, div, lt, le, eq}
 use lib.Ieee.Scale.{finite}
 use lib.Ieee.Fits.{and-l}
 use lib.Ieee.Positive.{positive, positive-finite, mul-mono}
-use Rattle.elementary.specs.Arithmetic.{_⊕_, _⊖_, _⊗_, _⊘_, _≺_, _≼_, _≈_, bits}
+use Rattle.elementary.specs.Arithmetic.{_⊕_, _⊖_, _⊗_, _⊘_, _≺_, _≼_, bits}
 use Rattle.elementary.specs.Constants.{0·0, 0·5, 0·8, 1·0, 2·0}
 use Rattle.elementary.specs.Split.{splitOf, Within}
 use Rattle.elementary.specs.Root.{rootOf}
@@ -29,11 +28,10 @@ use Rattle.aero_error.specs.Checks.{required}
 use Rattle.drag.specs.Constants.{3·0}
 use Rattle.drag.specs.Friction.{machChecked}
 use Rattle.stoney.specs.declared.ValueAndSlope.{ValueAndSlope}
-use Rattle.nose_drag.specs.declared.fit.Fit.{Fit}
 use Rattle.nose_drag.specs.declared.fit.Fit.the-variants.{Power}
 use Rattle.nose_drag.specs.Constants.{1·3, 2·1, 4·0, GAMMA, CONE-3-REST, CONE-SUPERSONIC-MACH}
 use Rattle.nose_drag.specs.Forms.{hermite, coneSupersonic, coneTransonic, sinHalfAngle, coneMethod}
-use Rattle.nose_drag.specs.Below.{fitOf, powerAt, fitAt, restWith, fitWith, fitted}
+use Rattle.nose_drag.specs.Below.{fitOf, powerAt, restWith, fitWith, fitted}
 use Rattle.nose_drag.specs.Methods.{wholeCone, referenceAt}
 use Rattle.nose_drag.specs.Curves.{CONE-3}
 use Rattle.nose_drag.specs.Values.{whole-cone-above}
@@ -63,9 +61,19 @@ rest-is : (low : ValueAndSlope) → restWith CONE-3-REST low 1·0 ≡ CONE-3-RES
 unfolding restWith eq ofBits
 rest-is low = refl
 
-constants-within : Within 1 S × Within 1 Δ × Within 13 b × Within 1 CONE-3-REST × Within 1 0·5 × Within 2 2·0 × Within 3 2·1 × Within 3 3·0
+record Bounded : Type 0 where
+  sine : Within 1 S
+  rise : Within 1 Δ
+  exponent : Within 13 b
+  rest : Within 1 CONE-3-REST
+  half : Within 1 0·5
+  two : Within 2 2·0
+  factor : Within 3 2·1
+  three : Within 3 3·0
+
+bounded : Bounded
 unfolding ofBits
-constants-within = (lit≤ tt, lit≤ tt, lit≤ tt, lit≤ tt, lit≤ tt, lit≤ tt, lit≤ tt, lit≤ tt)
+bounded = record { sine = lit≤ tt; rise = lit≤ tt; exponent = lit≤ tt; rest = lit≤ tt; half = lit≤ tt; two = lit≤ tt; factor = lit≤ tt; three = lit≤ tt }
 
 -- ---- a Mach number
 
@@ -99,10 +107,10 @@ below-within : (M : Float) → T (fits binary64 M) → T (positive M) → T (0·
 below-within M h p a l =
     let w : Within 1 M = within-under M 1·0 1 p (lt-le M 1·0 (subst T (sym l) tt)) one-within in
     let v : Within (2 ^ 785) (POW M b) =
-    pow-within M b h p (within-more M 1 2 (lit≤ tt) w) (least-from 0·8 M 2 (eight-tenths .0) (eight-tenths .1) a) (constants-within .2) in
+    pow-within M b h p (within-more M 1 2 (lit≤ tt) w) (least-from 0·8 M 2 (eight-tenths .0) (eight-tenths .1) a) (bounded .exponent) in
     rw (below-is M h p l)
-    (add-within CONE-3-REST (Δ ⊗ POW M b) (2 ^ 785) (2 ^ 785) (power 786 (lit≤ tt)) (within-more CONE-3-REST 1 (2 ^ 785) (lit≤ tt) (constants-within .3))
-    (mul-within Δ (POW M b) 1 (2 ^ 785) (power 785 (lit≤ tt)) (constants-within .1) v))
+    (add-within CONE-3-REST (Δ ⊗ POW M b) (2 ^ 785) (2 ^ 785) (power 786 (lit≤ tt)) (within-more CONE-3-REST 1 (2 ^ 785) (lit≤ tt) (bounded .rest))
+    (mul-within Δ (POW M b) 1 (2 ^ 785) (power 785 (lit≤ tt)) (bounded .rise) v))
 
 -- ---- between Mach 1 and 1.3
 
@@ -123,8 +131,8 @@ hermite-within y₀ m₀ y₁ m₁ x Y₀ M₀ Y₁ M₁ u w =
     let t = (x ⊖ 1·0) ⊘ h in
     let t2 = t ⊗ t in
     let t3 = t ⊗ t ⊗ t in
-    let two = constants-within .5 in
-    let three = constants-within .7 in
+    let two = bounded .two in
+    let three = bounded .three in
     let T1 : Within 4 t = div-within (x ⊖ 1·0) h 1 4 (small 4 (lit< tt)) (less-one-within x u w) (width .1) in
     let T2 : Within 16 t2 = mul-within t t 4 4 (small 16 (lit< tt)) T1 T1 in
     let T3 : Within 64 t3 = mul-within t2 t 16 4 (small 64 (lit< tt)) T2 T1 in
@@ -155,9 +163,9 @@ unfolding coneSupersonic
 supersonic-within M p h =
     let k = supersonic-mach in
     let squared = le-through 5/4 (1·3 ⊗ 1·3) (M ⊗ M) tt (k .1) (k .2) (mul-mono binary64 1·3 M 1·3 M (k .0) p (k .0) p h h) in
-    let s = constants-within .0 in
-    let first : Within 3 (2·1 ⊗ S ⊗ S) = mul-within (2·1 ⊗ S) S 3 1 (small 3 (lit< tt)) (mul-within 2·1 S 3 1 (small 3 (lit< tt)) (constants-within .6) s) s in
-    let over : Within 1 (0·5 ⊗ S) = mul-within 0·5 S 1 1 (small 1 (lit< tt)) (constants-within .4) s in
+    let s = bounded .sine in
+    let first : Within 3 (2·1 ⊗ S ⊗ S) = mul-within (2·1 ⊗ S) S 3 1 (small 3 (lit< tt)) (mul-within 2·1 S 3 1 (small 3 (lit< tt)) (bounded .factor) s) s in
+    let over : Within 1 (0·5 ⊗ S) = mul-within 0·5 S 1 1 (small 1 (lit< tt)) (bounded .half) s in
     add-within (2·1 ⊗ S ⊗ S) (0·5 ⊗ S ⊘ SQRT (M ⊗ M ⊖ 1·0)) 3 2 (small 5 (lit< tt)) first
     (div-within (0·5 ⊗ S) (SQRT (M ⊗ M ⊖ 1·0)) 1 2 (small 2 (lit< tt)) over (root-less-one-least (M ⊗ M) squared))
 
@@ -171,7 +179,7 @@ transonic-within M p f = go (CONE-SUPERSONIC-MACH ≼ M) refl
     go true e = rw e (within-more (coneSupersonic S M .value) 5 633 (lit≤ tt) (supersonic-within M p (subst T (sym e) tt)))
     go false e =
         let w = within-under M 1·3 2 p (stays-under M 1·3 p (positive-finite 1·3 (supersonic-mach .0)) e) (supersonic-mach .3) in
-        rw e (hermite-within _ _ _ _ M (constants-within .0) (ends-within .0) (ends-within .1) (ends-within .2) (positive-unsigned M p) w)
+        rw e (hermite-within _ _ _ _ M (bounded .sine) (ends-within .0) (ends-within .1) (ends-within .2) (positive-unsigned M p) w)
 
 above-within : (M : Float) → T (positive M) → T (finite M) → (M ≺ 1·0) ≡ false → Within (2 ^ 786) (referenceAt CONE-3 M .value)
 unfolding coneMethod
