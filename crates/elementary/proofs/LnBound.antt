@@ -54,17 +54,18 @@ half-within : Within 1 0·5
 unfolding ofBits
 half-within = lit≤ tt
 
+by-t-within : (t e : Float) (n : ℕ) → n ≤ 2000 → Within 1 t → Within n e → Within (n + 22) (e ⊗ «LN_2» ⊕ 2·0 ⊗ t ⊗ lnSeries (t ⊗ t))
+by-t-within t e n l a h =
+    let c : Within n (e ⊗ «LN_2») = rw (mul-one n) at (mul-within e «LN_2» n 1 (small (n * 1) (omega arith)) h ln-two-within) in
+    let p : Within 11 (lnSeries (t ⊗ t)) = series-within (t ⊗ t) (mul-within t t 1 1 (small 1 (lit< tt)) a a) in
+    add-within (e ⊗ «LN_2») (2·0 ⊗ t ⊗ lnSeries (t ⊗ t)) n 22 (small (n + 22) (omega arith)) c
+    (mul-within (2·0 ⊗ t) (lnSeries (t ⊗ t)) 2 11 (small 22 (lit< tt)) (mul-within 2·0 t 2 1 (small 2 (lit< tt)) two-within a) p)
+
 ln-sum-within : (m : Float) (d n : ℕ) → n ≤ 2000 → T (unsigned m) → Within 2 m → Within n (whole d ⊖ whole 1075) → Within (n + 22) (lnSum m d)
 unfolding lnSum
 ln-sum-within m d n l s w h =
-    let t = (m ⊖ 1·0) ⊘ (m ⊕ 1·0) in
-    let u = t ⊗ t in
-    let one = small 1 (lit< tt) in
-    let a : Within 1 t = div-within (m ⊖ 1·0) (m ⊕ 1·0) 1 1 one (less-one-within m s w) (one-more-least m (within-finite m 2 w) s) in
-    let b : Within 11 (lnSeries u) = series-within u (mul-within t t 1 1 one a a) in
-    let c : Within n ((whole d ⊖ whole 1075) ⊗ «LN_2») = rw (mul-one n) at (mul-within (whole d ⊖ whole 1075) «LN_2» n 1 (small (n * 1) (omega arith)) h ln-two-within) in
-    add-within ((whole d ⊖ whole 1075) ⊗ «LN_2») (2·0 ⊗ t ⊗ lnSeries u) n 22 (small (n + 22) (omega arith)) c
-    (mul-within (2·0 ⊗ t) (lnSeries u) 2 11 (small 22 (lit< tt)) (mul-within 2·0 t 2 1 (small 2 (lit< tt)) two-within a) b)
+    by-t-within _ (whole d ⊖ whole 1075) n l
+    (div-within _ _ 1 1 (small 1 (lit< tt)) (less-one-within m s w) (one-more-least m (within-finite m 2 w) s)) h
 
 -- ---- the significand over 2 ^ 52
 

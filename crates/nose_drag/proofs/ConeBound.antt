@@ -95,22 +95,28 @@ over-one (fin true m e) h p = absurd p
 over-one (fin false zero e) h p = absurd p
 over-one (fin false (suc m) e) h p = rw (mul-one (suc m * up e), one-mul (down e)) (round-held m e h)
 
-below-is : (M : Float) → T (fits binary64 M) → T (positive M) → (M ≺ 1·0) ≡ true → referenceAt CONE-3 M .value ≡ CONE-3-REST ⊕ Δ ⊗ POW M b
-unfolding wholeCone fitted powerAt
-below-is M h p l = rw (l, sine-is, fit-is, rest-is, not-negative M p .1, over-one M h p)
+below-is : (M : Float) → (M ≺ 1·0) ≡ true → referenceAt CONE-3 M .value ≡ CONE-3-REST ⊕ powerAt Δ b M 1·0 .value
+unfolding wholeCone fitted
+below-is M l = rw (l, sine-is, fit-is, rest-is)
 
 eight-tenths : T (positive 0·8) × Least 2 0·8
 unfolding ofBits
 eight-tenths = (tt, lit≤ tt)
 
-below-within : (M : Float) → T (fits binary64 M) → T (positive M) → T (0·8 ≼ M) → (M ≺ 1·0) ≡ true → Within (2 ^ 786) (referenceAt CONE-3 M .value)
-below-within M h p a l =
-    let w : Within 1 M = within-under M 1·0 1 p (lt-le M 1·0 (subst T (sym l) tt)) one-within in
-    let v : Within (2 ^ 785) (POW M b) =
-    pow-within M b h p (within-more M 1 2 (lit≤ tt) w) (least-from 0·8 M 2 (eight-tenths .0) (eight-tenths .1) a) (bounded .exponent) in
-    rw (below-is M h p l)
-    (add-within CONE-3-REST (Δ ⊗ POW M b) (2 ^ 785) (2 ^ 785) (power 786 (lit≤ tt)) (within-more CONE-3-REST 1 (2 ^ 785) (lit≤ tt) (bounded .rest))
-    (mul-within Δ (POW M b) 1 (2 ^ 785) (power 785 (lit≤ tt)) (bounded .rise) v))
+module _ (M : Float) (h : T (fits binary64 M)) (p : T (positive M)) (a : T (0·8 ≼ M)) (l : (M ≺ 1·0) ≡ true) where
+  ratio-within : Within (2 ^ 785) (POW (M ⊘ 1·0) b)
+  ratio-within =
+      let w : Within 1 M = within-under M 1·0 1 p (lt-le M 1·0 (subst T (sym l) tt)) one-within in
+      rw (over-one M h p) (pow-within M b h p (within-more M 1 2 (lit≤ tt) w) (least-from 0·8 M 2 (eight-tenths .0) (eight-tenths .1) a) (bounded .exponent))
+
+  power-within : Within (2 ^ 785) (powerAt Δ b M 1·0 .value)
+  unfolding powerAt
+  power-within = rw (not-negative M p .1) (mul-within Δ _ 1 (2 ^ 785) (power 785 (lit≤ tt)) (bounded .rise) ratio-within)
+
+  below-within : Within (2 ^ 786) (referenceAt CONE-3 M .value)
+  below-within =
+      rw (below-is M l)
+      (add-within CONE-3-REST (powerAt Δ b M 1·0 .value) (2 ^ 785) (2 ^ 785) (power 786 (lit≤ tt)) (within-more CONE-3-REST 1 (2 ^ 785) (lit≤ tt) (bounded .rest)) power-within)
 
 -- ---- between Mach 1 and 1.3
 
