@@ -115,13 +115,24 @@ not-negative (fin false m e) p =
 
 pub pow-within : (x y : Float) → T (fits binary64 x) → T (positive x) → Within 2 x → Least 2 x → Within 13 y → Within (2 ^ 785) (POW x y)
 unfolding POW powSteps
-pow-within x y h p w l b =
-    let n = not-negative x p in
-    let z = y ⊗ LN x in
-    let a : Within 312 z = mul-within y (LN x) 13 24 (small 312 (lit< tt)) b (ln-within x 1 (lit≤ tt) h p w l) in
-    rw (n .0, n .1, number x 2 w, number y 13 b) (go (y ≈ 0·0) (x ≈ 1·0) (EXP z) (exp-within z (within-more z 312 320 (lit≤ tt) a)))
+pow-within x y h p w l b = go (y ≈ 0·0) (x ≈ 1·0) refl refl
   where
-    go : (s t : Bool) (v : Float) → Within (2 ^ 785) v → Within (2 ^ 785) (cond s 1·0 (cond t 1·0 v))
-    go true t v a = within-more 1·0 1 (2 ^ 785) (lit≤ tt) one-within
-    go false true v a = within-more 1·0 1 (2 ^ 785) (lit≤ tt) one-within
-    go false false v a = a
+    one : Within (2 ^ 785) 1·0
+    one = within-more 1·0 1 (2 ^ 785) (lit≤ tt) one-within
+
+    last : Within (2 ^ 785) (EXP (y ⊗ LN x))
+    last =
+        let a : Within 312 (y ⊗ LN x) = mul-within y (LN x) 13 24 (small 312 (lit< tt)) b (ln-within x 1 (lit≤ tt) h p w l) in
+        exp-within (y ⊗ LN x) (within-more (y ⊗ LN x) 312 320 (lit≤ tt) a)
+
+    above : (x ≺ 0·0) ≡ false
+    above = not-negative x p .0
+
+    some : (x ≈ 0·0) ≡ false
+    some = not-negative x p .1
+
+    go : (s t : Bool) → (y ≈ 0·0) ≡ s → (x ≈ 1·0) ≡ t → Within (2 ^ 785) (POW x y)
+    go true true e f = simp (above, number x 2 w, number y 13 b, e, f) one
+    go true false e f = simp (above, number x 2 w, number y 13 b, e, f) one
+    go false true e f = simp (above, number x 2 w, number y 13 b, e, f) one
+    go false false e f = simp (above, some, number x 2 w, number y 13 b, e, f) last
