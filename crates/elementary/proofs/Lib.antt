@@ -6,9 +6,13 @@ pub mod Powers
 pub mod Value
 pub mod Sizes
 pub mod Bounds
+pub mod Ranges
+pub mod LnBound
+pub mod ExpBound
 pub mod Same
 pub mod ZeroWeight
 pub mod Nearest
 pub mod Unique
+pub mod RootBound
 pub mod Floor
 pub mod Cases

@@ -113,7 +113,7 @@ within-more (inf s) n k h w = w
 within-more (fin s m e) n k h w = le-trans w (mul-le-mul-right (down e) h)
 
 -- ---- between EXP's bounds
-not-or : (a b : Bool) → (a || b) ≡ false → a ≡ false
+pub not-or : (a b : Bool) → (a || b) ≡ false → a ≡ false
 not-or true b h = h
 not-or false b h = refl
 

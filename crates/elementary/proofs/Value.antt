@@ -6,7 +6,7 @@ use native.Mathlib.Nat.{mul-assoc, mul-comm, mul-left-comm, mul-right-comm, mul-
 use mathlib.Core.Logic.{inl, inr}
 use native.Mathlib.Omega.{arith}
 use lib.IntN.{ℤ}
-use lib.Dec.{T, eqb, lit<}
+use lib.Dec.{T, eqb}
 use lib.Pow.{pow-add, pow-pos, pow-mono, pow-lt, shl-lt}
 use lib.Ieee.{Float, nan, inf, fin, binary64, up, down, size, fits}
 use lib.Ieee.Digits.{back, size-le}
@@ -76,16 +76,21 @@ same-floor s a b c d B D h = rw (div-same a b c d B D h, same-test (a % b) (c % 
 
 -- ---- the floor from the parts
 
--- a number of at most 2 ^ 51 has at most 1126 digits
+-- a number of at most 2 ^ k has at most 1075 + k digits
+pub size-within : (s : Bool) (m : ℕ) (e : ℤ) (k : ℕ) → T (fits binary64 (fin s (suc m) e)) → Within (2 ^ k) (fin s (suc m) e) → size (units (suc m) e) ≤ 1075 + k
+size-within s m e k h w =
+    let u = in-units m e (held s m e h) in
+    let n = units (suc m) e in
+    let l : n * down e ≤ 2 ^ (k + 1074) * down e =
+    le-trans (le-of-eq (sym (u .exact)))
+    (le-trans (mul-le-mul-right (2 ^ 1074) w) (le-of-eq (mul-right-comm (2 ^ k) (down e) (2 ^ 1074) ∙ ap (λ (z : ℕ). z * down e) (sym (pow-add 2 k 1074))))) in
+    size-le n (1075 + k) (lt-of-le-of-lt (le-of-mul-le-mul-right l (down-pos e)) (pow-lt {i = k + 1074} {j = 1075 + k} (omega arith)))
+
+-- so one of at most 2 ^ 51 has at most 1126
 pub few-digits : (s : Bool) (m : ℕ) (e : ℤ) {t : Bool} {g d : ℕ} → T (fits binary64 (fin s (suc m) e)) → splitOf (fin s (suc m) e) ≡ Finite t g d
     → Within (2 ^ 51) (fin s (suc m) e) → d ≤ 1126
 unfolding splitOf
-few-digits s m e {t} {g} {d} h p w =
-    let u = in-units m e (held s m e h) in
-    let n = units (suc m) e in
-    let b : size n ≡ d = cc in
-    let l : n * down e ≤ 2 ^ 1125 * down e = le-trans (le-of-eq (sym (u .exact))) (le-trans (mul-le-mul-right (2 ^ 1074) w) (le-of-eq (mul-right-comm (2 ^ 51) (down e) (2 ^ 1074)))) in
-    subst (λ (k : ℕ). k ≤ 1126) b (size-le n 1126 (lt-of-le-of-lt (le-of-mul-le-mul-right l (down-pos e)) (pow-lt {i = 1125} {j = 1126} (lit< tt))))
+few-digits s m e {t} {g} {d} h p w = let b : size (units (suc m) e) ≡ d = cc in subst (λ (k : ℕ). k ≤ 1126) b (size-within s m e 51 h w)
 
 pub floor-parts : (s : Bool) (m : ℕ) (e : ℤ) {t : Bool} {g d : ℕ} → T (fits binary64 (fin s (suc m) e)) → splitOf (fin s (suc m) e) ≡ Finite t g d
     → d ≤ 1126 → floorSize s (suc m * up e) (down e) ≡ floorSize s g (2 ^ (1127 - d))

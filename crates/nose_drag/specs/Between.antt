@@ -187,6 +187,7 @@ haack-between c = record { curve = λ f rest curve e. by (one-third ≺ c) f res
 pub data Measured : NoseShape → StoneyNose → Type 0 where
   power-at-1/4 : Measured (PowerSeries 0·25) PowerQuarter
   power-at-1/2 : Measured (PowerSeries 0·5) PowerHalf
+  power-at-3/4 : Measured (PowerSeries 0·75) PowerThreeQuarters
   parabolic-at-1/2 : Measured (ParabolicSeries 0·5) ParabolaHalf
   parabolic-at-3/4 : Measured (ParabolicSeries 0·75) ParabolaThreeQuarters
   haack-at-0 : Measured (Haack 0·0) VonKarman
