@@ -6,11 +6,13 @@ use Prim.Native.Nat.{ℕ, zero, suc, _+_, _≤_, _<_}
 use native.Mathlib.Numerals.{add-one}
 use native.Mathlib.Decide.{ℕ-discrete}
 use native.Mathlib.Omega.{arith}
+use lib.Ieee.{Float}
+use Rattle.aero_error.specs.declared.Quantity.{Quantity}
 use Rattle.aero_error.specs.declared.AeroError.{AeroError}
 use Rattle.aero_error.specs.declared.Rule.{Rule}
 use Rattle.aero_error.specs.declared.Check.{Check}
 use Rattle.aero_error.specs.declared.Check.the-variants.{Passed, Failed}
-use Rattle.aero_error.specs.Checks.{_then_, unless, upTo}
+use Rattle.aero_error.specs.Checks.{required, _then_, unless, upTo}
 
 -- ---- two tests
 
@@ -33,6 +35,10 @@ then-passed (Failed r) = refl
 pub unless-passed : (broken : Bool) (rule : Rule) → unless broken rule ≡ Passed → broken ≡ false
 unless-passed true rule e = let z : _≡_ {A = ℕ} 0 1 = cc in absurd (omega arith)
 unless-passed false rule e = refl
+
+pub required-passed : (ok : Bool) (what : Quantity) (x : Float) → required ok what x ≡ Passed → ok ≡ true
+required-passed true what x e = refl
+required-passed false what x e = let z : _≡_ {A = ℕ} 0 1 = cc in absurd (omega arith)
 
 -- ---- n tests
 

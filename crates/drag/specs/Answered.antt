@@ -6,15 +6,17 @@ use lib.Dec.{T, eqb, eqb→eq}
 use lib.IntN.{pos}
 use lib.Ieee.{Float, nan, inf, fin, up, down, lt, le, eq, level, neg, ofBits}
 use lib.Ieee.Scale.{finite}
+use lib.Ieee.Fits.{and-l, and-r}
 use Rattle.elementary.specs.Arithmetic.{_⊕_, _⊖_, _⊗_, _⊘_, _≺_, _≼_, _≈_}
 use Rattle.elementary.specs.Steps.{POW}
 use Rattle.elementary.specs.Tests.{between}
 use Rattle.elementary.specs.Constants.{0·0, 0·5, 1·0}
-use Rattle.aero_error.specs.declared.Quantity.the-variants.{Roughness, BodyFineness}
+use Rattle.aero_error.specs.declared.Quantity.the-variants.{Mach, Roughness, BodyFineness}
 use Rattle.aero_error.specs.declared.Check.{Check}
 use Rattle.aero_error.specs.declared.Check.the-variants.{Passed}
 use Rattle.aero_error.specs.declared.Coefficient.the-variants.{Value}
 use Rattle.aero_error.specs.Checks.{required, dimension, _and-then_}
+use Rattle.aero_error.specs.CheckLaws.{required-passed}
 use Rattle.drag.specs.Constants.{51·0, 1·039, LOW-REYNOLDS}
 use Rattle.drag.specs.Friction.{machChecked, flowChecked, criticalReynolds, limitedFriction, compressible, frictionOn, skinFrictionCoefficient, bodyFrictionFormFactor}
 use Rattle.drag.specs.Pressure.{baseDrag, baseDragCoefficient, boattailShare, boattailFactor}
@@ -66,6 +68,18 @@ in-interval x high f h = rw (bounded x high f h) (either (0·0 ≺ x) (0·0 ≈ 
 one-finite : finite 1·0 ≡ true
 unfolding ofBits
 one-finite = refl
+
+-- ---- a Mach number that passed its test
+
+pub record MachPassed (M : Float) : Type 0 where
+  pub is-finite : T (finite M)
+  pub not-negative : T (0·0 ≼ M)
+
+pub mach-passed : (M : Float) → machChecked M ≡ Passed → MachPassed M
+unfolding machChecked
+mach-passed M h =
+    let t : T (finite M && 0·0 ≼ M) = subst T (sym (required-passed (finite M && 0·0 ≼ M) Mach M h)) tt in
+    record { is-finite = and-l (finite M) (0·0 ≼ M) t; not-negative = and-r (finite M) (0·0 ≼ M) t }
 
 -- ---- friction
 

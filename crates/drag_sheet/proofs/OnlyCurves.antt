@@ -19,7 +19,7 @@ use Rattle.aero_error.specs.declared.Rule.the-variants.{TooManyColumns, DesignF
 use Rattle.aero_error.specs.declared.Check.the-variants.{Passed, Failed}
 use Rattle.aero_error.specs.declared.Coefficient.the-variants.{Value}
 use Rattle.aero_error.specs.Checks.{dimension, unless, upTo}
-use Rattle.aero_error.specs.CheckLaws.{both-passed, up-each, up-all, up-same}
+use Rattle.aero_error.specs.CheckLaws.{both-passed, required-passed, up-each, up-all, up-same}
 use Rattle.drag.specs.Friction.{machChecked, flowChecked, limitedFriction, compressible, skinFrictionCoefficient, bodyFrictionFormFactor}
 use Rattle.drag.specs.Pressure.{baseDrag, baseDragCoefficient}
 use Rattle.drag.specs.Answered.{limits, friction-answered, form-answered, base-answered, boattail-answered}
@@ -40,7 +40,7 @@ use Rattle.drag_sheet.specs.Formulas.{areaRatio, withCurve, preparedOf, 
 use Rattle.drag_sheet.specs.Build.{preparedAt, rowTest, trial}
 use Rattle.drag_sheet.specs.Calls.{Call, replace, insert, remove, setColumn, applied, argumentsTest, rowTestWhere, columnTrial, tries, after, callTest, decision}
 use Rattle.drag_sheet.proofs.Verdicts.{never}
-use Rattle.drag_sheet.proofs.Refusals.{then-failed, then-first, up-refused, held, required-held}
+use Rattle.drag_sheet.proofs.Refusals.{then-failed, then-first, up-refused, held}
 use Rattle.drag_sheet.proofs.Answers.{call-facts, Bounds, bounds}
 use Rattle.drag_sheet.proofs.TestsKept.{Tested, tested-after}
 
@@ -75,7 +75,7 @@ ranges c cells t =
     let parts = both-passed (unless (ltb most-parts (length (c .parts))) DesignFull) _ (a .second) in
     record {
       roughness = held _ _ (wall .first);
-      fineness = required-held _ _ _ (wall .second);
+      fineness = required-passed _ _ _ (wall .second);
       columns = up-each _ (s .count) (columns .first);
       parts = λ i h. sized (partAt (c .parts) i) (up-each _ (length (c .parts)) (parts .second) i h);
     }
@@ -89,8 +89,8 @@ pub record Answered (c : Contents) (k : ℕ) : Type 0 where
   pub form : bodyFrictionFormFactor (c .settings .«body_fineness») ≡ Value (1·0 ⊕ 0·5 ⊘ c .settings .«body_fineness»)
   pub base : baseDragCoefficient (machAt (c .settings) k) ≡ Value (baseDrag (machAt (c .settings) k))
 
-mach-passed : (c : Contents) → Ranges c → (k : ℕ) → k < c .settings .count → machChecked (machAt (c .settings) k) ≡ Passed
-mach-passed c r k h = both-passed (machChecked (machAt (c .settings) k)) _ (r .columns k h) .first
+passed-at : (c : Contents) → Ranges c → (k : ℕ) → k < c .settings .count → machChecked (machAt (c .settings) k) ≡ Passed
+passed-at c r k h = both-passed (machChecked (machAt (c .settings) k)) _ (r .columns k h) .first
 
 pub body-answered : (c : Contents) (cells : ℕ) → Tested c cells → (k : ℕ) → k < c .settings .count → Answered c k
 body-answered c cells t k h =
@@ -98,7 +98,7 @@ body-answered c cells t k h =
     record {
       friction = friction-answered (reynoldsAt (c .settings) k) (c .settings .roughness) (machAt (c .settings) k) (r .columns k h) (r .roughness);
       form = form-answered (c .settings .«body_fineness») (r .fineness);
-      base = base-answered (machAt (c .settings) k) (mach-passed c r k h);
+      base = base-answered (machAt (c .settings) k) (passed-at c r k h);
     }
 
 -- ---- a part's row
@@ -158,7 +158,7 @@ module _ (c : Contents) (cells : ℕ) (tested : Tested c cells) where
   made-at : (i k : ℕ) → i < length (c .parts) → k < c .settings .count → readyTest (preparedAt c i) ≡ Passed → madeTest (cellFrom (preparedAt c i) (machAt (c .settings) k)) ≡ Passed
   made-at i k h l =
       let r = ranges c cells tested in
-      made (machAt (c .settings) k) (way (c .settings .«reference_diameter») (foreAt (c .parts) i) (partAt (c .parts) i)) (fore-inside c r i h) (r .parts i h) (mach-passed c r k l)
+      made (machAt (c .settings) k) (way (c .settings .«reference_diameter») (foreAt (c .parts) i) (partAt (c .parts) i)) (fore-inside c r i h) (r .parts i h) (passed-at c r k l)
 
   -- once ready, no column refuses
   pub row-ready : (i : ℕ) → i < length (c .parts) → rowTest c i ≡ readyTest (preparedAt c i)

@@ -4,13 +4,11 @@ use mathlib.Core.Logic.{_⊎_, inl, inr, ⊎-elim}
 use mathlib.Core.Bool.{Bool, true, false, cond}
 use Prim.Native.Nat.{ℕ, zero, suc, _<_}
 use native.Mathlib.Omega.{arith}
-use lib.Ieee.{Float}
-use Rattle.aero_error.specs.declared.Quantity.{Quantity}
 use Rattle.aero_error.specs.declared.AeroError.{AeroError}
 use Rattle.aero_error.specs.declared.Rule.{Rule}
 use Rattle.aero_error.specs.declared.Check.{Check}
 use Rattle.aero_error.specs.declared.Check.the-variants.{Passed, Failed}
-use Rattle.aero_error.specs.Checks.{required, _then_, unless, upTo}
+use Rattle.aero_error.specs.Checks.{_then_, unless, upTo}
 use Rattle.drag_sheet.proofs.Verdicts.{never}
 
 -- the first refuses, or it passes and the second one refuses
@@ -42,7 +40,3 @@ up-refused test (suc n) h =
 pub held : (ok : Bool) (e : AeroError) → cond ok Passed (Failed e) ≡ Passed → ok ≡ true
 held true e h = refl
 held false e h = never refl h
-
-pub required-held : (ok : Bool) (what : Quantity) (x : Float) → required ok what x ≡ Passed → ok ≡ true
-required-held true what x h = refl
-required-held false what x h = never refl h

@@ -8,7 +8,6 @@ use native.Mathlib.Omega.{arith}
 use lib.Dec.{T, lit<, lit≤}
 use lib.Ieee.{Float, nan, inf, fin, binary64, up, down, fits, ofBits, ofInt, round, sum, neg, add, sub, mul, div, lt, le, eq}
 use lib.Ieee.Scale.{finite}
-use lib.Ieee.Fits.{and-l}
 use lib.Ieee.Positive.{positive, positive-finite, mul-mono}
 use Rattle.elementary.specs.Arithmetic.{_⊕_, _⊖_, _⊗_, _⊘_, _≺_, _≼_, bits}
 use Rattle.elementary.specs.Constants.{0·0, 0·5, 0·8, 1·0, 2·0}
@@ -23,10 +22,9 @@ use Rattle.elementary.proofs.Ranges.{reaches, stays-under, positive-from, posit
 use Rattle.elementary.proofs.ExpBound.{not-negative, pow-within}
 use Rattle.elementary.proofs.RootBound.{5/4, root-less-one-least}
 use Rattle.aero_error.specs.declared.Check.the-variants.{Passed}
-use Rattle.aero_error.specs.declared.Quantity.the-variants.{Mach}
-use Rattle.aero_error.specs.Checks.{required}
 use Rattle.drag.specs.Constants.{3·0}
 use Rattle.drag.specs.Friction.{machChecked}
+use Rattle.drag.specs.Answered.{mach-passed}
 use Rattle.stoney.specs.declared.ValueAndSlope.{ValueAndSlope}
 use Rattle.nose_drag.specs.declared.fit.Fit.the-variants.{Power}
 use Rattle.nose_drag.specs.Constants.{1·3, 2·1, 4·0, GAMMA, CONE-3-REST, CONE-SUPERSONIC-MACH}
@@ -74,16 +72,6 @@ record Bounded : Type 0 where
 bounded : Bounded
 unfolding ofBits
 bounded = record { sine = lit≤ tt; rise = lit≤ tt; exponent = lit≤ tt; rest = lit≤ tt; half = lit≤ tt; two = lit≤ tt; factor = lit≤ tt; three = lit≤ tt }
-
--- ---- a Mach number
-
-checked-finite : (M : Float) → machChecked M ≡ Passed → T (finite M)
-unfolding machChecked
-checked-finite M e = and-l (finite M) (0·0 ≼ M) (go (finite M && 0·0 ≼ M) e)
-  where
-    go : (t : Bool) → required t Mach M ≡ Passed → T t
-    go true e = tt
-    go false e = let z : _≡_ {A = ℕ} 0 1 = cc in absurd (omega arith)
 
 -- ---- below Mach 1
 
@@ -196,7 +184,7 @@ above-within M p f l =
 -- ---- all of it
 pub cone-3-within : (M : Float) → T (fits binary64 M) → machChecked M ≡ Passed → (M ≺ 0·8) ≡ false → Within (2 ^ 786) (referenceAt CONE-3 M .value)
 cone-3-within M h checked high =
-    let f = checked-finite M checked in
+    let f = mach-passed M checked .is-finite in
     let a = reaches 0·8 M (eight-tenths .0) f high in
     let p = positive-from 0·8 M (eight-tenths .0) f a in
     go f p a (M ≺ 1·0) refl

@@ -2,14 +2,11 @@
 -- joint angle: the weight of the upper reference is 0, and 0 times a finite difference adds nothing. (At weight 1 that can't be said of the upper reference:
 -- lo + 1 × (hi - lo) is rounded twice.)
 use mathlib.Core.Path.{_≡_, refl, sym, ap, _∙_}
-use mathlib.Core.Bool.{Bool, true, false, cond, _&&_}
+use mathlib.Core.Bool.{false}
 use Prim.Native.Nat.{ℕ, _+_, _^_, _≤_}
-use native.Mathlib.Omega.{arith}
 use lib.Dec.{T, lit<, lit≤}
 use lib.Ieee.{Float, binary64, fits, ofBits, round, sum, neg, add, sub, mul, div, lt}
-use lib.Ieee.Scale.{finite}
-use lib.Ieee.Fits.{and-l, and-r}
-use Rattle.elementary.specs.Arithmetic.{_⊖_, _⊗_, _≺_, _≼_, _≈_}
+use Rattle.elementary.specs.Arithmetic.{_⊖_, _⊗_, _≺_, _≈_}
 use Rattle.elementary.specs.Constants.{0·0, 0·5, 0·8}
 use Rattle.elementary.specs.Split.{Within}
 use Rattle.elementary.proofs.Sizes.{Fine, small, within-more}
@@ -17,10 +14,9 @@ use Rattle.elementary.proofs.Bounds.{sub-within, within-finite}
 use Rattle.elementary.proofs.ZeroWeight.{nothing-of, alike-choice}
 use Rattle.aero_error.specs.declared.Check.the-variants.{Passed}
 use Rattle.aero_error.specs.declared.Coefficient.the-variants.{Value}
-use Rattle.aero_error.specs.declared.Quantity.the-variants.{Mach}
-use Rattle.aero_error.specs.Checks.{required}
 use Rattle.drag.specs.Constants.{0·25, 3·0, 0·85}
 use Rattle.drag.specs.Friction.{machChecked}
+use Rattle.drag.specs.Answered.{mach-passed}
 use Rattle.drag.specs.Pressure.{stagnationRatio}
 use Rattle.shapes.specs.declared.NoseShape.{NoseShape}
 use Rattle.shapes.specs.declared.NoseShape.the-variants.{PowerSeries, ParabolicSeries, Haack}
@@ -39,20 +35,6 @@ use Rattle.nose_drag.specs.Values.{scaledValue, value-of-scaled}
 use Rattle.nose_drag.specs.Curves.{CONE-3, coefficientOf, powerBracket, parabolicBracket, weightOf, newCurve}
 use Rattle.nose_drag.specs.Between.{Between, between-coefficient, power-between, parabolic-between, haack-between, Measured, power-at-1/4, power-at-1/2, power-at-3/4, parabolic-at-1/2, parabolic-at-3/4, haack-at-0, ownNumber}
 
--- ---- a Mach number that is checked
-
-passed : (t : Bool) (x : Float) → required t Mach x ≡ Passed → T t
-passed true x e = tt
-passed false x e = let z : _≡_ {A = ℕ} 0 1 = cc in absurd (omega arith)
-
-record Checked (M : Float) : Type 0 where
-  pub finite-one : T (finite M)
-  pub not-negative : T (0·0 ≼ M)
-
-checked : (M : Float) → machChecked M ≡ Passed → Checked M
-unfolding machChecked
-checked M e = let t = passed (finite M && 0·0 ≼ M) M e in record { finite-one = and-l (finite M) (0·0 ≼ M) t; not-negative = and-r (finite M) (0·0 ≼ M) t }
-
 -- ---- weight 0
 
 -- the lower reference alone, where both are bounded
@@ -62,8 +44,8 @@ unfolding scaledValue blunt
 lower-alone nose upper f M n h F ok w =
     let lo = valueAndSlope nose M .value in
     let hi = referenceAt upper M .value in
-    let k = checked M ok in
-    let b = table-bounded nose M (k .finite-one) (k .not-negative) in
+    let k = mach-passed M ok in
+    let b = table-bounded nose M (k .is-finite) (k .not-negative) in
     let d = within-finite (hi ⊖ lo) (n + n) (sub-within hi lo n n F w (within-more lo 65 n h (b .within))) in
     sym (value-of-scaled (referenceAt (Reference.Stoney nose) M) (referenceAt upper M) 0·0 (finenessExponent f) M)
     ∙ alike-choice (mixed lo hi 0·0) lo 0·0 (λ c. finenessScaled c (0·85 ⊗ stagnationRatio M) (finenessExponent f)) (nothing-of lo (hi ⊖ lo) (b .fits) (within-finite lo 65 (b .within)) d)
@@ -85,7 +67,7 @@ on-table next b = record {
   bound = 65;
   wide = lit≤ tt;
   fine = small 130 (lit< tt);
-  held = λ M h ok above. (let k = checked M ok in table-bounded next M (k .finite-one) (k .not-negative) .within);
+  held = λ M h ok above. (let k = mach-passed M ok in table-bounded next M (k .is-finite) (k .not-negative) .within);
 }
 
 -- twice the cone's bound is a float
