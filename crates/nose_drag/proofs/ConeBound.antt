@@ -59,6 +59,7 @@ rest-is : (low : ValueAndSlope) → restWith CONE-3-REST low 1·0 ≡ CONE-3-RES
 unfolding restWith eq ofBits
 rest-is low = refl
 
+-- what bounds each of them, and the constants of the formulas
 record Bounded : Type 0 where
   sine : Within 1 S
   rise : Within 1 Δ
@@ -165,9 +166,9 @@ supersonic-within M p h =
 
 -- ---- from Mach 1 on
 
-transonic-within : (M : Float) → T (positive M) → T (finite M) → Within 633 (coneTransonic S M .value)
+transonic-within : (M : Float) → T (positive M) → Within 633 (coneTransonic S M .value)
 unfolding coneTransonic
-transonic-within M p f = go (CONE-SUPERSONIC-MACH ≼ M) refl
+transonic-within M p = go (CONE-SUPERSONIC-MACH ≼ M) refl
   where
     go : (t : Bool) → (CONE-SUPERSONIC-MACH ≼ M) ≡ t → Within 633 (coneTransonic S M .value)
     go true e = rw e (within-more (coneSupersonic S M .value) 5 633 (lit≤ tt) (supersonic-within M p (subst T (sym e) tt)))
@@ -175,11 +176,11 @@ transonic-within M p f = go (CONE-SUPERSONIC-MACH ≼ M) refl
         let w = within-under M 1·3 2 p (stays-under M 1·3 p (positive-finite 1·3 (supersonic-mach .0)) e) (supersonic-mach .3) in
         rw e (hermite-within _ _ _ _ M (bounded .sine) (ends-within .0) (ends-within .1) (ends-within .2) (positive-unsigned M p) w)
 
-above-within : (M : Float) → T (positive M) → T (finite M) → (M ≺ 1·0) ≡ false → Within (2 ^ 786) (referenceAt CONE-3 M .value)
+above-within : (M : Float) → T (positive M) → (M ≺ 1·0) ≡ false → Within (2 ^ 786) (referenceAt CONE-3 M .value)
 unfolding coneMethod
-above-within M p f l =
+above-within M p l =
     rw (whole-cone-above 3·0 1·0 CONE-3-REST M l, sine-is)
-    (within-more (1·0 ⊗ coneTransonic S M .value) 633 (2 ^ 786) (lit≤ tt) (mul-within 1·0 (coneTransonic S M .value) 1 633 (small 633 (lit< tt)) one-within (transonic-within M p f)))
+    (within-more (1·0 ⊗ coneTransonic S M .value) 633 (2 ^ 786) (lit≤ tt) (mul-within 1·0 (coneTransonic S M .value) 1 633 (small 633 (lit< tt)) one-within (transonic-within M p)))
 
 -- ---- all of it
 pub cone-3-within : (M : Float) → T (fits binary64 M) → machChecked M ≡ Passed → (M ≺ 0·8) ≡ false → Within (2 ^ 786) (referenceAt CONE-3 M .value)
@@ -187,8 +188,8 @@ cone-3-within M h checked high =
     let f = mach-passed M checked .is-finite in
     let a = reaches 0·8 M (eight-tenths .0) f high in
     let p = positive-from 0·8 M (eight-tenths .0) f a in
-    go f p a (M ≺ 1·0) refl
+    go p a (M ≺ 1·0) refl
   where
-    go : T (finite M) → T (positive M) → T (0·8 ≼ M) → (t : Bool) → (M ≺ 1·0) ≡ t → Within (2 ^ 786) (referenceAt CONE-3 M .value)
-    go f p a true l = below-within M h p a l
-    go f p a false l = above-within M p f l
+    go : T (positive M) → T (0·8 ≼ M) → (t : Bool) → (M ≺ 1·0) ≡ t → Within (2 ^ 786) (referenceAt CONE-3 M .value)
+    go p a true l = below-within M h p a l
+    go p a false l = above-within M p l
