@@ -18,7 +18,7 @@ use Rattle.aero_error.specs.declared.Check.{Check}
 use Rattle.aero_error.specs.declared.Check.the-variants.{Passed, Failed}
 use Rattle.aero_error.specs.declared.Coefficient.{Coefficient}
 use Rattle.aero_error.specs.declared.Coefficient.the-variants.{Value, Refused}
-use Rattle.aero_error.specs.Refusals.{numberOf, codeOf, refusedValue, numberOfRule, codeOfQuantity}
+use Rattle.aero_error.specs.Refusals.{numberOf, codeOf, refusedValue, codeOfQuantity}
 
 pub record Told : Type 0 where
   pub number : ℕ

@@ -2,7 +2,7 @@
 -- the list that a run makes: an open, and for each part card an insert at the end.
 use mathlib.Core.Path.{_≡_, refl, sym, ap, _∙_, subst}
 use mathlib.Core.Bool.{Bool, true, false, cond}
-use mathlib.Core.List.{List, [], _∷_, _++_, map, append-assoc, append-nil}
+use mathlib.Core.List.{List, [], _∷_, _++_, append-assoc, append-nil}
 use Prim.Native.Nat.{ℕ, zero, suc, _+_}
 use native.Mathlib.Omega.{arith}
 use lib.ListN.{length, length-append}
@@ -12,17 +12,16 @@ use lib.Ieee.{Float}
 use Rattle.aero_error.specs.declared.AeroError.{AeroError}
 use Rattle.aero_error.specs.declared.Check.{Check}
 use Rattle.aero_error.specs.declared.Check.the-variants.{Passed, Failed}
-use Rattle.aero_error.specs.Told.{told, all-told-apart}
+use Rattle.aero_error.specs.Told.{all-told-apart}
 use Rattle.sheet_data.specs.declared.Part.{Part}
-use Rattle.sheet_data.specs.declared.Settings.{Settings}
 use Rattle.sheet_data.specs.declared.Sheet.{Sheet}
 use Rattle.sheet_data.specs.Contents.{Contents, contentsOf, blank}
 use Rattle.sheet_data.specs.Tests.{settingsTest}
 use Rattle.drag_sheet.specs.declared.Answer.{Answer}
 use Rattle.drag_sheet.specs.Writing.{whole, overwritten}
-use Rattle.drag_sheet.specs.Calls.{Call, insert, insertAt, applied, decision, Called, Opened}
+use Rattle.drag_sheet.specs.Calls.{Call, insert, insertAt, decision, Called, Opened}
 use Rattle.drag_sheet.specs.Model.{openedModel, modelDecision, moved, modelAfter, modelDecisions}
-use Rattle.drag_sheet.specs.Lists.{Sequence, stop, go, Matches, Agrees}
+use Rattle.drag_sheet.specs.Lists.{Sequence, stop, go, Matches}
 use Rattle.drag_sheet.proofs.Verdicts.{never}
 use Rattle.drag_sheet.proofs.ListsLaw.{lists-agree}
 use Rattle.cards.specs.declared.PartRead.{PartRead}

@@ -1,11 +1,9 @@
 -- From what a call's functions say to what its contract says: what passed tests show, a refused call, all rows written, the rows of a replaced part written.
 use mathlib.Core.Path.{_≡_, refl, sym, ap, _∙_}
-use mathlib.Core.Bool.{false}
-use mathlib.Core.List.{List, [], _∷_, _++_}
-use Prim.Native.Nat.{ℕ, _+_, _-_, _≤_, _<_}
-use native.Mathlib.Omega.{arith}
-use lib.ListN.{length, take, drop, set, length-set, take-append-drop}
-use lib.Seq.{take-at, length-take-le, take-set-lt, drop-set-lt}
+use mathlib.Core.List.{List}
+use Prim.Native.Nat.{ℕ, _-_, _≤_, _<_}
+use lib.ListN.{length, drop}
+use lib.Seq.{take-at}
 use lib.Dec.{ltb, leb}
 use lib.Ieee.{Float}
 use borrow.Author.Tests.{ltb-false, leb-false}
@@ -13,19 +11,18 @@ use Rattle.aero_error.specs.declared.AeroError.{AeroError}
 use Rattle.aero_error.specs.declared.Check.{Check}
 use Rattle.aero_error.specs.declared.Check.the-variants.{Passed, Failed}
 use Rattle.aero_error.specs.declared.Rule.the-variants.{TooManyColumns, TooFewCells, DesignFull, NoSuchPlace}
-use Rattle.aero_error.specs.Checks.{_then_, unless, upTo}
-use Rattle.aero_error.specs.CheckLaws.{both-passed, unless-passed, then-assoc, up-none}
+use Rattle.aero_error.specs.Checks.{unless}
+use Rattle.aero_error.specs.CheckLaws.{both-passed, unless-passed, up-none}
 use Rattle.drag.specs.Friction.{flowChecked}
 use Rattle.sheet_data.specs.declared.Settings.{Settings}
-use Rattle.sheet_data.specs.declared.Part.{Part}
 use Rattle.sheet_data.specs.declared.Sheet.{Sheet}
 use Rattle.sheet_data.specs.Layout.{most-parts, most-columns, needed}
-use Rattle.sheet_data.specs.Contents.{Contents, contentsOf, partsOf, blank, Fits}
+use Rattle.sheet_data.specs.Contents.{Contents, contentsOf, blank, Fits}
 use Rattle.sheet_data.specs.Tests.{bodyTest, columnsTest, settingsTest, partTest, sheetTest}
 use Rattle.drag_sheet.specs.declared.Answer.{Answer}
 use Rattle.drag_sheet.specs.Build.{trial}
 use Rattle.drag_sheet.specs.Writing.{chosen, whole, overwritten}
-use Rattle.drag_sheet.specs.Calls.{Call, replace, insert, remove, setColumn, insertAt, removeAt, applied, argumentsTest, tries, scope, after, callTest, decision, sheetWith, answered, Called, Opened}
+use Rattle.drag_sheet.specs.Calls.{Call, replace, insert, remove, setColumn, argumentsTest, tries, scope, after, callTest, sheetWith, answered, Called, Opened}
 use Rattle.drag_sheet.specs.Edits.{Rewritten}
 
 -- ---- what passed tests show

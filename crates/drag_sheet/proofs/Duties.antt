@@ -4,28 +4,26 @@
 use mathlib.Core.Path.{_≡_, refl, sym, ap, _∙_}
 use mathlib.Core.Logic.{dite, _≢_}
 use mathlib.Core.List.{List, [], _∷_, _++_}
-use Prim.Native.Nat.{ℕ, zero, suc, _+_, _*_, _≤_, _<_}
+use Prim.Native.Nat.{ℕ, zero, suc, _+_, _≤_, _<_}
 use native.Mathlib.Decide.{decLt}
 use native.Mathlib.Omega.{arith}
-use lib.ListN.{length, getD, take, drop, set, length-set}
+use lib.ListN.{length, set, length-set}
 use lib.Seq.{getD-set-other}
-use lib.Dec.{ltb}
-use lib.Ieee.{Float, nan}
+use lib.Ieee.{Float}
 use borrow.Author.Tests.{lt-ltb, le-ltb}
-use Rattle.aero_error.specs.declared.Check.{Check}
 use Rattle.aero_error.specs.declared.Check.the-variants.{Passed}
 use Rattle.aero_error.specs.Checks.{_then_, upTo}
 use Rattle.aero_error.specs.CheckLaws.{both-passed, then-passed, up-each, up-only, up-two, up-same}
 use Rattle.sheet_data.specs.declared.Part.{Part}
 use Rattle.sheet_data.specs.Layout.{most-parts, finishes, friction-row, total-row}
-use Rattle.sheet_data.specs.Contents.{Contents, partAt, foreAt, machAt, reynoldsAt}
+use Rattle.sheet_data.specs.Contents.{Contents, foreAt, machAt, reynoldsAt}
 use Rattle.sheet_data.specs.Tables.{tab-same}
 use Rattle.sheet_data.specs.Rows.{from, Unnamed, Below}
 use Rattle.sheet_data.specs.RowLaws.{before-all, below-append, unnamed-append}
 use Rattle.drag_sheet.specs.Formulas.{cellFrom, readyTest, madeTest, frictionCell, baseCell}
 use Rattle.drag_sheet.specs.Build.{Kind, part, friction, base, total, kindAt, preparedAt, partCell, kindCell, rowTest, trial, cellAt, rowOf}
 use Rattle.drag_sheet.specs.Writing.{overwritten}
-use Rattle.drag_sheet.specs.Calls.{Call, replace, insert, remove, setColumn, withColumn, applied, tries, rowTestWhere, columnTrial, replacedRows, bodyRows, scope}
+use Rattle.drag_sheet.specs.Calls.{Call, replace, insert, remove, setColumn, applied, tries, columnTrial, replacedRows, bodyRows, scope}
 use Rattle.drag_sheet.proofs.RowKinds.{kind-part}
 use Rattle.drag_sheet.proofs.Columns.{same-mach, same-reynolds}
 use Rattle.drag_sheet.proofs.Overwritten.{Holds, Inside, rows-hold, column-holds, whole-holds}

@@ -24,7 +24,6 @@ use Rattle.drag_sheet.specs.Writing.{whole, overwritten}
 use Rattle.drag_sheet.specs.Calls.{Call, replace, insert, remove, setColumn, argumentsTest, scope, after, callTest, decision, sheetWith, answered, Called, Opened}
 use Rattle.drag_sheet.specs.Model.{openedModel, modelDecision, moved, modelAfter, modelDecisions}
 use Rattle.drag_sheet.specs.Lists.{Sequence, stop, go, Arrays, Matches, Agrees, Session}
-use Rattle.drag_sheet.proofs.Verdicts.{never}
 use Rattle.drag_sheet.proofs.Overwritten.{Holds, holds-build, whole-holds, keeps}
 use Rattle.drag_sheet.proofs.Answers.{settings-facts, call-facts, Bounds, bounds, contents-with, blank-tried}
 use Rattle.drag_sheet.proofs.Duties.{narrow, call-holds}

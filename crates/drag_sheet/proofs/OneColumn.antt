@@ -1,21 +1,19 @@
 -- A column by itself: the rows tried and the cells of a sheet with that column alone are those of the column in the sheet.
-use mathlib.Core.Path.{_≡_, refl, sym, ap, _∙_}
+use mathlib.Core.Path.{_≡_, refl, ap, _∙_}
 use mathlib.Core.List.{List}
 use Prim.Native.Nat.{ℕ, zero, suc, _<_}
-use native.Mathlib.Omega.{arith}
-use lib.ListN.{length, getD, set, replicate}
-use lib.Ieee.{Float, nan}
-use Rattle.aero_error.specs.declared.Check.{Check}
-use Rattle.aero_error.specs.Checks.{_then_, upTo}
+use lib.ListN.{length}
+use lib.Ieee.{Float}
+use Rattle.aero_error.specs.Checks.{_then_}
 use Rattle.aero_error.specs.CheckLaws.{up-one, up-same}
 use Rattle.sheet_data.specs.declared.Settings.{Settings}
 use Rattle.sheet_data.specs.declared.Part.{Part}
 use Rattle.sheet_data.specs.Layout.{finishes, all-rows}
-use Rattle.sheet_data.specs.Contents.{Contents, machAt, reynoldsAt}
+use Rattle.sheet_data.specs.Contents.{Contents}
 use Rattle.sheet_data.specs.Tables.{tab}
 use Rattle.sheet_data.specs.Rows.{laid}
-use Rattle.drag_sheet.specs.Formulas.{cellFrom, readyTest, madeTest, frictionCell, baseCell}
-use Rattle.drag_sheet.specs.Build.{Kind, part, friction, base, total, kindAt, preparedAt, partCell, kindCell, rowTest, trial, cellAt, rowOf, build}
+use Rattle.drag_sheet.specs.Formulas.{readyTest, frictionCell, baseCell}
+use Rattle.drag_sheet.specs.Build.{Kind, part, friction, base, total, kindAt, preparedAt, partCell, kindCell, rowTest, trial, cellAt, build}
 use Rattle.drag_sheet.specs.Calls.{withColumn, columnTrial}
 use Rattle.drag_sheet.specs.Edits.{oneColumn}
 use Rattle.drag_sheet.proofs.Columns.{new-mach, new-reynolds}

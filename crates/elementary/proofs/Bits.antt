@@ -1,9 +1,8 @@
 -- `splitOf` speaks of a float's value, and the code of its 64 bits: both take the float apart alike.
 use mathlib.Core.Path.{_≡_, refl, sym, ap, _∙_, subst, subst₂}
-use mathlib.Core.Logic.{_⊎_, inl, inr}
 use mathlib.Core.Bool.{Bool, true, false, cond, not, _&&_}
 use Prim.Native.Nat.{ℕ, zero, suc, _+_, _-_, _*_, _/_, _%_, _^_, _≤_, _<_}
-use native.Mathlib.Nat.{zero-mul, zero-div, mul-assoc, mul-comm, mul-one, mul-div-cancel, mul-div-mul-right, div-lt-iff-lt-mul, le-div-iff-mul-le, lt-of-lt-of-le, lt-of-not-le, not-le-of-lt, le-of-suc-le-suc, lt-irrefl, le-antisymm, add-comm, mul-right-comm, le-trans, le-of-eq, mul-le-mul, mul-lt-mul-of-pos-right, lt-of-mul-lt-mul-right, mul-pos, zero-lt-suc}
+use native.Mathlib.Nat.{zero-mul, zero-div, mul-assoc, mul-one, mul-div-cancel, mul-div-mul-right, div-lt-iff-lt-mul, le-div-iff-mul-le, lt-of-lt-of-le, lt-of-not-le, not-le-of-lt, le-of-suc-le-suc, lt-irrefl, le-antisymm, add-comm, mul-right-comm, le-of-eq, mul-lt-mul-of-pos-right, lt-of-mul-lt-mul-right, mul-pos, zero-lt-suc}
 use native.Mathlib.Omega.{arith}
 use lib.IntN.{ℤ, pos, negsuc}
 use native.Mathlib.Decide.{decLe}
@@ -13,10 +12,10 @@ use lib.Pow.{shr-lt, shl-exact, pow-add, pow-pos, pow-mono, pow-lt}
 use lib.Count.{leadingZeros, leading-top}
 use lib.Ieee.{Float, nan, inf, fin, binary64, up, down, size, fits, isNan, toBits}
 use lib.Ieee.Digits.{back, size-lt, size-le, size-reaches}
-use lib.Ieee.Fits.{up-pos, down-pos, and-l, and-r}
-use borrow.Author.Tests.{lt-leb, le-leb, eq-eqb, ne-eqb}
+use lib.Ieee.Fits.{down-pos, and-l, and-r}
+use borrow.Author.Tests.{lt-leb, le-leb, ne-eqb}
 use Rattle.elementary.specs.declared.split.Parts.{Parts}
-use Rattle.elementary.specs.declared.split.Parts.the-variants.{Nan, Infinite, Zero, Finite}
+use Rattle.elementary.specs.declared.split.Parts.the-variants.{Infinite, Zero, Finite}
 use Rattle.elementary.specs.Split.{units, normalised, splitOf, Taken}
 
 -- ---- what the code does with the bits

@@ -1,21 +1,17 @@
 -- How large the sums, products and quotients of bounded floats are. `Within n x`: x is finite, and at most n in size. Each law asks that the bound of the result is itself
 -- a float (`Fine`), which `small` and `power` say of whole numbers below 2 ^ 53 and of powers of two.
-use mathlib.Core.Path.{_≡_, refl, sym, ap, _∙_}
-use mathlib.Core.Bool.{Bool, true, false, cond, _||_, true≢false}
-use mathlib.Core.List.{List, [], _∷_}
-use Prim.Native.Nat.{ℕ, zero, suc, _+_, _-_, _*_, _^_, _≤_, _<_}
-use native.Mathlib.Nat.{mul-assoc, mul-comm, mul-left-comm, add-mul, mul-pos, mul-le-mul, mul-le-mul-right, le-trans, le-of-eq, lt-of-lt-of-le, mul-one, one-mul, zero-mul, mul-zero}
+use mathlib.Core.Path.{_≡_, ap, _∙_}
+use Prim.Native.Nat.{ℕ, zero, suc, _+_, _-_, _*_, _≤_, _<_}
+use native.Mathlib.Nat.{mul-assoc, mul-comm, mul-left-comm, add-mul, mul-pos, mul-le-mul, mul-le-mul-right, le-trans, le-of-eq, zero-mul, mul-zero}
 use native.Mathlib.Omega.{arith}
-use lib.Dec.{T, ltb, eqb, lit<}
-use lib.ListN.{length}
-use lib.Ieee.{Float, nan, inf, fin, binary64, up, down, round, unlike, add, sub, mul, div, neg, ofBits}
+use lib.Dec.{T}
+use lib.Ieee.{Float, nan, inf, fin, up, down, unlike, add, sub, mul, div, neg}
 use lib.Ieee.Scale.{finite}
 use lib.Ieee.Fits.{down-pos, up-pos}
 use borrow.Author.Tests.{ne-eqb}
-use Rattle.elementary.specs.Arithmetic.{_⊕_, _⊖_, _⊗_, _⊘_, whole}
-use Rattle.elementary.specs.Steps.{through}
+use Rattle.elementary.specs.Arithmetic.{_⊕_, _⊖_, _⊗_, _⊘_}
 use Rattle.elementary.specs.Split.{Within}
-use Rattle.elementary.proofs.Sizes.{Fine, small, round-within, sum-within, within-more}
+use Rattle.elementary.proofs.Sizes.{Fine, round-within, sum-within}
 
 pub add-within : (x y : Float) (n m : ℕ) → Fine (n + m) → Within n x → Within m y → Within (n + m) (x ⊕ y)
 unfolding add

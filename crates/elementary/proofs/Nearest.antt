@@ -1,17 +1,17 @@
 -- SQRT is the nearest binary64 number to the exact root, for every finite x above zero, subnormal ones included. With r the whole number that `nearestRoot` finds for s = w × 2 ^ 52 and u the root's last place, x is s × u², the root is r × u, and
 -- every other binary64 number from 2 ^ 52 × u up is a multiple of u.
-use mathlib.Core.Path.{_≡_, refl, sym, ap, _∙_, subst, subst₂}
+use mathlib.Core.Path.{_≡_, refl, sym, ap, _∙_, subst}
 use mathlib.Core.Logic.{inl, inr}
 use mathlib.Core.Bool.{Bool, true, false, cond}
 use Prim.Native.Nat.{ℕ, zero, suc, _+_, _-_, _*_, _/_, _%_, _^_, _≤_, _<_}
-use native.Mathlib.Nat.{mul-assoc, mul-comm, mul-left-comm, mul-right-comm, mul-one, one-mul, zero-mul, zero-div, add-mul, mul-add, mul-mul-mul-comm, mul-pos, mul-le-mul, mul-le-mul-right, mul-le-mul-left, mul-lt-mul-of-pos-right, mul-lt-mul-of-pos-left, lt-of-mul-lt-mul-right, le-of-mul-le-mul-right, le-trans, le-of-eq, le-of-lt, lt-of-lt-of-le, lt-of-le-of-lt, mul-div-cancel, zero-lt-suc, eq-zero-or-pos, not-le-of-lt, lt-of-not-le, le-of-suc-le-suc}
+use native.Mathlib.Nat.{mul-assoc, mul-comm, mul-right-comm, one-mul, zero-mul, zero-div, add-mul, mul-add, mul-mul-mul-comm, mul-pos, mul-le-mul, mul-le-mul-right, mul-le-mul-left, mul-lt-mul-of-pos-right, lt-of-mul-lt-mul-right, le-trans, le-of-eq, le-of-lt, lt-of-lt-of-le, lt-of-le-of-lt, mul-div-cancel, zero-lt-suc, eq-zero-or-pos, not-le-of-lt, lt-of-not-le}
 use native.Mathlib.Decide.{decLe, decLt, ℕ-discrete}
 use native.Mathlib.Omega.{arith}
-use lib.IntN.{ℤ, pos, negsuc}
-use lib.Dec.{T, eqb, ltb, lit<, lit≤, lt→ltb}
+use lib.IntN.{ℤ}
+use lib.Dec.{T, eqb, lit<}
 use lib.Arith.{lt-of-le-ne}
-use lib.Pow.{pow-add, pow-pos, pow-mono, pow-lt, shl-lt}
-use lib.Ieee.{Float, nan, inf, fin, binary64, up, down, size, fits, round, mul, minus, ofInt}
+use lib.Pow.{pow-add, pow-pos, pow-mono, shl-lt}
+use lib.Ieee.{Float, nan, inf, fin, binary64, up, down, size, fits, minus, ofInt}
 use lib.Ieee.Digits.{back, minus-val}
 use lib.Ieee.Fits.{down-pos, mul-fits}
 use lib.Ieee.Exact.{HasValue, round-exact}
@@ -23,7 +23,7 @@ use Rattle.elementary.specs.Split.{units, normalised, splitOf, two^, Tak
 use Rattle.elementary.specs.Root.{rootOf, nearestRoot}
 use Rattle.elementary.specs.Steps.{SQRT, sqrtSteps}
 use Rattle.elementary.specs.Nearest.{unitsOf, NearestRoot}
-use Rattle.elementary.proofs.Bits.{Held, held, Units, in-units, exponent-le, taken-units}
+use Rattle.elementary.proofs.Bits.{held, in-units, taken-units}
 use Rattle.elementary.proofs.Root.{Rooted, rooted, nearest-up, nearest-down}
 use Rattle.elementary.proofs.Value.{normal-exact}
 

@@ -1,21 +1,20 @@
 -- How large the results of rounded operations can be, as whole-number bounds: a fraction of at most N rounds to at most N, since N itself is a float.
-use mathlib.Core.Path.{_≡_, refl, sym, ap, _∙_, subst}
-use mathlib.Core.Bool.{Bool, true, false, cond, not, _&&_, _||_, Bool·beq, true≢false, false≢true}
-use Prim.Native.Nat.{ℕ, zero, suc, _+_, _-_, _*_, _/_, _%_, _^_, _≤_, _<_}
-use native.Mathlib.Nat.{mul-assoc, mul-comm, mul-left-comm, mul-right-comm, mul-one, one-mul, add-mul, mul-mul-mul-comm, mul-pos, le-trans, le-of-eq, le-refl, sub-le, mul-le-mul, mul-le-mul-right, mul-le-mul-left, le-of-mul-le-mul-right, zero-lt-suc, lt-of-le-of-lt, lt-of-lt-of-le, mod-one, div-one, div-le-of-le-mul}
+use mathlib.Core.Path.{_≡_, refl, sym, ap, _∙_}
+use mathlib.Core.Bool.{Bool, true, false, cond, _&&_, _||_, Bool·beq, true≢false}
+use Prim.Native.Nat.{ℕ, _+_, _-_, _*_, _/_, _%_, _^_, _≤_, _<_}
+use native.Mathlib.Nat.{mul-assoc, mul-comm, mul-right-comm, mul-one, one-mul, add-mul, mul-mul-mul-comm, mul-pos, le-trans, le-of-eq, mul-le-mul-right, le-of-mul-le-mul-right, zero-lt-suc, lt-of-le-of-lt, lt-of-lt-of-le, mod-one, div-one, div-le-of-le-mul}
 use native.Mathlib.Omega.{arith}
-use lib.IntN.{ℤ, pos, negsuc}
-use lib.Dec.{T, ltb, eqb, lit≤, lit<}
+use lib.Dec.{ltb, eqb, lit≤, lit<}
 use lib.Pow.{pow-pos, pow-add, pow-mono, pow-lt, shl-lt}
-use lib.Ieee.{Float, nan, inf, fin, binary64, up, down, round, units, size, unlike, sum, add, div, neg, lt, eq, le, isNan, ofBits}
-use lib.Ieee.Fits.{up-pos, down-pos, round-is}
+use lib.Ieee.{Float, nan, inf, fin, binary64, up, down, round, units, size, unlike, sum, add, div, neg, le, isNan, ofBits}
+use lib.Ieee.Fits.{down-pos, round-is}
 use lib.Ieee.Exact.{HasValue, units-val}
 use lib.Ieee.Nearest.{closest, closest-mono}
 use lib.Ieee.Digits.{back, size-le}
 use borrow.Author.Tests.{ltb-false}
 use Rattle.elementary.specs.Arithmetic.{_⊕_, _⊘_, _≼_}
 use Rattle.elementary.specs.Constants.{0·5, «LN_2», 710·0, 746·0}
-use Rattle.elementary.specs.Split.{Within, floorSize, floorOf}
+use Rattle.elementary.specs.Split.{Within, floorOf}
 
 -- ---- a rounded fraction
 

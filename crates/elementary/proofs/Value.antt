@@ -2,12 +2,12 @@
 use mathlib.Core.Path.{_≡_, refl, sym, ap, _∙_, subst}
 use mathlib.Core.Bool.{Bool, true, false}
 use Prim.Native.Nat.{ℕ, zero, suc, _+_, _-_, _*_, _/_, _%_, _^_, _≤_, _<_}
-use native.Mathlib.Nat.{mul-assoc, mul-comm, mul-left-comm, mul-right-comm, mul-one, one-mul, zero-mul, zero-div, zero-mod, mul-zero, add-mul, add-left-cancel, mul-div-cancel, div-add-mod', mod-lt, div-eq-of-lt, mod-eq-of-lt, mul-pos, mul-lt-mul-of-pos-right, lt-of-lt-of-le, lt-of-le-of-lt, le-of-eq, le-trans, mul-le-mul-right, le-of-mul-le-mul-right, eq-of-mul-eq-mul-right, eq-zero-or-pos, lt-irrefl}
+use native.Mathlib.Nat.{mul-assoc, mul-comm, mul-right-comm, one-mul, zero-mul, zero-div, zero-mod, add-mul, mul-div-cancel, div-add-mod', div-eq-of-lt, mod-eq-of-lt, mul-pos, lt-of-le-of-lt, le-of-eq, le-trans, mul-le-mul-right, le-of-mul-le-mul-right, eq-of-mul-eq-mul-right, eq-zero-or-pos, lt-irrefl}
 use mathlib.Core.Logic.{inl, inr}
 use native.Mathlib.Omega.{arith}
 use lib.IntN.{ℤ}
 use lib.Dec.{T, eqb}
-use lib.Pow.{pow-add, pow-pos, pow-mono, pow-lt, shl-lt}
+use lib.Pow.{pow-add, pow-pos, pow-lt, shl-lt}
 use lib.Ieee.{Float, nan, inf, fin, binary64, up, down, size, fits}
 use lib.Ieee.Digits.{back, size-le}
 use lib.Ieee.Fits.{down-pos}
@@ -16,8 +16,8 @@ use borrow.Author.Tests.{eq-eqb, ne-eqb}
 use Rattle.elementary.specs.declared.split.Parts.{Parts}
 use Rattle.elementary.specs.declared.split.Parts.the-variants.{Nan, Infinite, Zero, Finite}
 use Rattle.elementary.specs.declared.split.Whole.{Whole}
-use Rattle.elementary.specs.Split.{units, normalised, splitOf, floorSize, floorOf, Within, Taken}
-use Rattle.elementary.proofs.Bits.{Held, held, Units, in-units}
+use Rattle.elementary.specs.Split.{units, normalised, splitOf, floorSize, floorOf, Within}
+use Rattle.elementary.proofs.Bits.{Held, held, in-units}
 
 -- bringing n to 53 digits loses nothing
 pub normal-exact : (m : ℕ) (e : ℤ) → Held (suc m) e → let n = units (suc m) e in normalised n (size n) * 2 ^ size n ≡ n * 2 ^ 53

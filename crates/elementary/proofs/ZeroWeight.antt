@@ -1,11 +1,10 @@
 -- lo + 0 × d for finite lo and d: it is lo, but for a zero lo, where it is a zero, whose sign may be another: -0 + 0 × d is +0 for a d that isn't negative. (Where d overflows, 0 × d is a NaN.)
-use mathlib.Core.Path.{_≡_, refl, sym, ap, _∙_}
+use mathlib.Core.Path.{_≡_, refl, ap, _∙_}
 use mathlib.Core.Bool.{Bool, true, false, cond, _&&_}
 use Prim.Native.Nat.{ℕ, zero, suc, _*_, _<_, zero-le}
-use native.Mathlib.Nat.{mul-one, one-mul, zero-mul, add-zero, sub-zero, mul-pos, zero-lt-suc}
-use native.Mathlib.Omega.{arith}
+use native.Mathlib.Nat.{mul-one, zero-mul, add-zero, sub-zero, mul-pos, zero-lt-suc}
 use lib.IntN.{ℤ, pos}
-use lib.Dec.{T, ltb}
+use lib.Dec.{T}
 use lib.Ieee.{Float, nan, inf, fin, binary64, up, down, round, unlike, sum, add, mul, fits, ofBits, le, lt, eq}
 use lib.Ieee.Scale.{finite}
 use lib.Ieee.Fits.{up-pos, down-pos}

@@ -1,16 +1,14 @@
 -- The 3:1 cone's whole curve is bounded from Mach 0.8 on. Below Mach 1 it is a power of a number from 1/2 to 1, between Mach 1 and 1.3 a cubic, and from Mach 1.3
 -- on a quotient by a root of 1/2 or more, +infinity included.
 use mathlib.Core.Path.{_≡_, refl, sym, subst}
-use mathlib.Core.Bool.{Bool, true, false, _&&_}
-use Prim.Native.Nat.{ℕ, zero, suc, _*_, _^_}
+use mathlib.Core.Bool.{Bool, true, false}
+use Prim.Native.Nat.{zero, suc, _*_, _^_}
 use native.Mathlib.Nat.{mul-one, one-mul}
-use native.Mathlib.Omega.{arith}
 use lib.Dec.{T, lit<, lit≤}
 use lib.Ieee.{Float, nan, inf, fin, binary64, up, down, fits, ofBits, ofInt, round, sum, neg, add, sub, mul, div, lt, le, eq}
-use lib.Ieee.Scale.{finite}
 use lib.Ieee.Positive.{positive, positive-finite, mul-mono}
 use Rattle.elementary.specs.Arithmetic.{_⊕_, _⊖_, _⊗_, _⊘_, _≺_, _≼_, bits}
-use Rattle.elementary.specs.Constants.{0·0, 0·5, 0·8, 1·0, 2·0}
+use Rattle.elementary.specs.Constants.{0·5, 0·8, 1·0, 2·0}
 use Rattle.elementary.specs.Split.{splitOf, Within}
 use Rattle.elementary.specs.Root.{rootOf}
 use Rattle.elementary.specs.Steps.{SQRT, sqrtSteps, POW}

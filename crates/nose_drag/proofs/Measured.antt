@@ -14,16 +14,15 @@ use Rattle.elementary.proofs.Bounds.{sub-within, within-finite}
 use Rattle.elementary.proofs.ZeroWeight.{nothing-of, alike-choice}
 use Rattle.aero_error.specs.declared.Check.the-variants.{Passed}
 use Rattle.aero_error.specs.declared.Coefficient.the-variants.{Value}
-use Rattle.drag.specs.Constants.{0·25, 3·0, 0·85}
+use Rattle.drag.specs.Constants.{0·25, 0·85}
 use Rattle.drag.specs.Friction.{machChecked}
 use Rattle.drag.specs.Answered.{mach-passed}
 use Rattle.drag.specs.Pressure.{stagnationRatio}
 use Rattle.shapes.specs.declared.NoseShape.{NoseShape}
-use Rattle.shapes.specs.declared.NoseShape.the-variants.{PowerSeries, ParabolicSeries, Haack}
 use Rattle.stoney.specs.declared.StoneyNose.{StoneyNose}
-use Rattle.stoney.specs.declared.StoneyNose.the-variants.{PowerQuarter, PowerHalf, PowerThreeQuarters, ParabolaHalf, ParabolaThreeQuarters, Parabola, LvHaack, VonKarman}
+use Rattle.stoney.specs.declared.StoneyNose.the-variants.{PowerHalf, PowerThreeQuarters, ParabolaThreeQuarters, Parabola, LvHaack}
 use Rattle.stoney.specs.Lookup.{valueAndSlope}
-use Rattle.stoney.proofs.Bounded.{Bounded, table-bounded}
+use Rattle.stoney.proofs.Bounded.{table-bounded}
 use Rattle.nose_drag.proofs.ConeBound.{cone-3-within}
 use Rattle.nose_drag.specs.declared.curve.Reference.{Reference}
 use Rattle.nose_drag.specs.declared.curve.PressureDragCurve.{PressureDragCurve}

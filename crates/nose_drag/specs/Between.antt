@@ -2,13 +2,12 @@
 -- references, interpolated by the weight of the upper one and scaled by eq. B.9. `midway` names both references and the weight in the middle of every gap.
 use mathlib.Core.Path.{_≡_, refl, sym, ap, _∙_}
 use mathlib.Core.Bool.{Bool, true, false, cond}
-use mathlib.Core.List.{List, [], _∷_, map}
+use mathlib.Core.List.{[], _∷_, map}
 use mathlib.Core.Option.{Option, none, some}
 use Prim.Native.Nat.{ℕ}
 use native.Mathlib.Omega.{arith}
-use lib.Ieee.{Float, ofBits, round, sum, neg, add, sub, mul, div, lt, le, eq, ofInt}
-use lib.Ieee.Scale.{finite}
-use Rattle.elementary.specs.Arithmetic.{_⊗_, _⊘_, _≺_, _≼_, _≈_, bits}
+use lib.Ieee.{Float, ofBits, round, sum, neg, add, sub, mul, div, lt, le, eq}
+use Rattle.elementary.specs.Arithmetic.{_⊗_, _≺_, _≼_, _≈_, bits}
 use Rattle.elementary.specs.Tests.{between}
 use Rattle.elementary.specs.Constants.{0·0, 0·5, 0·8, 1·0}
 use Rattle.aero_error.specs.declared.AeroError.{AeroError}
@@ -37,7 +36,7 @@ use Rattle.nose_drag.specs.Forms.{blunt}
 use Rattle.nose_drag.specs.Below.{fitted}
 use Rattle.nose_drag.specs.Weights.{0·625}
 use Rattle.nose_drag.specs.Methods.{referenceAt, scaled, finenessScaled, finenessExponent}
-use Rattle.nose_drag.specs.Curves.{CONE-3, coefficientOf, curveAt, fromTransonic, interpolated, stepCurve, powerBracket, parabolicBracket, weightOf, betweenReferences, power, parabolic, haack, shaped, build, recorded, newCurve, _then-curve_, _for-curve_, _for-built_}
+use Rattle.nose_drag.specs.Curves.{CONE-3, coefficientOf, fromTransonic, interpolated, stepCurve, powerBracket, parabolicBracket, weightOf, betweenReferences, power, parabolic, haack, shaped, build, recorded, newCurve, _then-curve_, _for-curve_, _for-built_}
 
 -- ---- the middle of every gap
 

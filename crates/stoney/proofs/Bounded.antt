@@ -3,23 +3,23 @@
 use mathlib.Core.Path.{_≡_, refl, sym, subst}
 use mathlib.Core.Bool.{Bool, true, false, _&&_, cond, false≢true}
 use mathlib.Core.List.{List, [], _∷_}
-use Prim.Native.Nat.{ℕ, zero, suc, _+_, _*_, _≤_, _<_}
+use Prim.Native.Nat.{ℕ, _*_, _≤_, _<_}
 use native.Mathlib.Nat.{mul-right-comm, mul-le-mul-right, le-trans, le-of-eq, le-of-lt, le-of-mul-le-mul-right, zero-mul}
 use native.Mathlib.Omega.{arith}
-use lib.Dec.{T, ltb, leb, eqb, leb→le, ltb→lt, eqb→eq, lit<, lit≤}
-use lib.Ieee.{Float, nan, inf, fin, binary64, up, down, fits, ofBits, round, sum, neg, add, sub, mul, div, lt, le, eq}
+use lib.Dec.{T, leb, eqb, leb→le, ltb→lt, eqb→eq, lit<, lit≤}
+use lib.Ieee.{Float, nan, inf, fin, binary64, up, down, fits, ofBits, round, sum, neg, add, sub, div, lt, le, eq}
 use lib.Ieee.Scale.{finite}
 use lib.Ieee.Fits.{and-l, and-r, down-pos, add-fits, mul-fits}
-use Rattle.elementary.specs.Arithmetic.{_⊕_, _⊖_, _⊗_, _⊘_, _≺_, _≼_}
-use Rattle.elementary.specs.Constants.{0·0, 0·8}
+use Rattle.elementary.specs.Arithmetic.{_⊖_, _⊗_, _⊘_, _≺_, _≼_}
+use Rattle.elementary.specs.Constants.{0·0}
 use Rattle.elementary.specs.Split.{Within}
 use Rattle.elementary.proofs.Sizes.{small, within-more}
 use Rattle.elementary.proofs.Bounds.{add-within, sub-within, mul-within}
 use Rattle.stoney.specs.declared.StoneyNose.{StoneyNose}
 use Rattle.stoney.specs.declared.ValueAndSlope.{ValueAndSlope}
 use Rattle.stoney.specs.Tables.{noses}
-use Rattle.stoney.specs.Points.{Point, points, no-point, every, holds-at}
-use Rattle.stoney.specs.Lookup.{SUBSONIC-MACH-LIMIT, before, line, held, short-of, walk, lookup, valueAndSlope}
+use Rattle.stoney.specs.Points.{Point, points, every, holds-at}
+use Rattle.stoney.specs.Lookup.{SUBSONIC-MACH-LIMIT, before, line, walk, lookup, valueAndSlope}
 
 -- ---- the test
 

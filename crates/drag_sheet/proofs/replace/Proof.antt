@@ -1,5 +1,5 @@
 -- `replace` meets its contract: the sheet that it leaves, its changed rows written.
-use mathlib.Core.Path.{_≡_, refl, sym, ap, _∙_}
+use mathlib.Core.Path.{sym, ap, _∙_}
 use native.Mathlib.Omega.{arith}
 use lib.ListN.{length, length-map}
 use Rattle.sheet_data.specs.declared.Design.{Design}

@@ -1,5 +1,4 @@
 -- `sheet_text::print_read` meets its contract: the buffers are as long as a stream's first bytes that matter and as the longest text.
-use native.Mathlib.Omega.{arith}
 use borrow.Author.Needs.{needs}
 use Rattle.sheet_text.proofs.Prefix.{answered-read}
 use Rattle.sheet_text.proofs.print_read.Statement.{statement}

@@ -20,7 +20,7 @@ use Rattle.nose_drag.specs.declared.curve.PressureDragCurve.{PressureDra
 use Rattle.nose_drag.specs.Below.{fitOf, fitAt, restWith, fitWith, fitted}
 use Rattle.nose_drag.specs.Methods.{scaled, referenceAt, methodAt}
 use Rattle.nose_drag.specs.Curves.{fromTransonic, curveAt}
-use Rattle.nose_drag.specs.Depth.{depthOfReference, depthOfTransonic}
+use Rattle.nose_drag.specs.Depth.{depthOfReference}
 use Rattle.nose_drag.proofs.Cycle.{cone-reference, enough-for-reference, enough-for-method, kept-method}
 use Rattle.nose_drag.proofs.curve.PressureDragCurve.from_transonic.Reads as make
 use Rattle.nose_drag.proofs.curve.PressureDragCurve.from_transonic.Kinds as make-kinds
