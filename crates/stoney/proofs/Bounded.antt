@@ -1,25 +1,30 @@
 -- What a table says at a Mach number that is finite and not negative is finite: one computed test over all segments of all tables, and one law that carries it to
 -- every such Mach number.
-use mathlib.Core.Path.{_≡_, refl, sym, subst}
-use mathlib.Core.Bool.{Bool, true, false, _&&_, cond, false≢true}
+use mathlib.Core.Path.{_≡_, refl, sym, ap, _∙_, subst}
+use mathlib.Core.Bool.{Bool, true, false, _&&_, cond, true≢false, false≢true}
 use mathlib.Core.List.{List, [], _∷_}
 use Prim.Native.Nat.{ℕ, _*_, _≤_, _<_}
-use native.Mathlib.Nat.{mul-right-comm, mul-le-mul-right, le-trans, le-of-eq, le-of-lt, le-of-mul-le-mul-right, zero-mul}
+use native.Mathlib.Nat.{mul-right-comm, mul-le-mul-right, le-trans, le-of-eq, le-of-lt, le-of-mul-le-mul-right, zero-mul, not-suc-le-zero}
 use native.Mathlib.Omega.{arith}
 use lib.Dec.{T, leb, eqb, leb→le, ltb→lt, eqb→eq, lit<, lit≤}
+use lib.ListN.{length, getD}
 use lib.Ieee.{Float, nan, inf, fin, binary64, up, down, fits, ofBits, round, sum, neg, add, sub, div, lt, le, eq}
 use lib.Ieee.Scale.{finite}
-use lib.Ieee.Fits.{and-l, and-r, down-pos, add-fits, mul-fits}
+use lib.Ieee.Fits.{and-l, and-r, down-pos, add-fits}
+use lib.Ieee.Positive.{positive}
 use Rattle.elementary.specs.Arithmetic.{_⊖_, _⊗_, _⊘_, _≺_, _≼_}
-use Rattle.elementary.specs.Constants.{0·0}
+use Rattle.elementary.specs.Constants.{0·0, 0·8}
 use Rattle.elementary.specs.Split.{Within}
 use Rattle.elementary.proofs.Sizes.{small, within-more}
 use Rattle.elementary.proofs.Bounds.{add-within, sub-within, mul-within}
+use Rattle.elementary.proofs.Ranges.{reaches}
 use Rattle.stoney.specs.declared.StoneyNose.{StoneyNose}
 use Rattle.stoney.specs.declared.ValueAndSlope.{ValueAndSlope}
 use Rattle.stoney.specs.Tables.{noses}
-use Rattle.stoney.specs.Points.{Point, points, every, holds-at}
-use Rattle.stoney.specs.Lookup.{SUBSONIC-MACH-LIMIT, before, line, walk, lookup, valueAndSlope}
+use Rattle.stoney.specs.Points.{Point, points, no-point, firstMach, range-within, every, holds-at}
+use Rattle.stoney.specs.Lookup.{line, short-of, walk, lookup, valueAndSlope}
+use Rattle.stoney.specs.Segments.{pointOf, count-is, from-1·2, at-limit, starts, below-limit}
+use Rattle.stoney.proofs.RunDown.{run-down}
 
 -- ---- the test
 
@@ -43,11 +48,11 @@ small-slopes [] = true
 small-slopes (p ∷ []) = small-point p
 small-slopes (p ∷ q ∷ rest) = small-point p && (within 8 ((q .drag ⊖ p .drag) ⊘ (q .mach ⊖ p .mach)) && small-slopes (q ∷ rest))
 
-abbrev small-start : List Point → Bool
-small-start [] = false
-small-start (p ∷ rest) = cond (SUBSONIC-MACH-LIMIT ≺ p .mach) (within 8 (p .drag ⊘ (p .mach ⊖ SUBSONIC-MACH-LIMIT))) true
+-- and so is the line by which a table that starts late is run down
+abbrev small-run : StoneyNose → Bool
+small-run nose = cond (from-1·2 nose) (small-slopes (at-limit ∷ pointOf nose 0 ∷ [])) true
 
-all-small : T (every (λ nose. small-slopes (points nose) && small-start (points nose)) noses)
+all-small : T (every (λ nose. small-slopes (points nose) && small-run nose) noses)
 unfolding points fits ofBits round sum neg add sub div lt le eq
 all-small = tt
 
@@ -83,9 +88,9 @@ first-small : (q : Point) (rest : List Point) → T (small-slopes (q ∷ rest)) 
 first-small q [] t = t
 first-small q (r ∷ rest) t = and-l (small-point q) _ t
 
-limit-within : Within 4 SUBSONIC-MACH-LIMIT
+limit-positive : T (positive 0·8)
 unfolding ofBits
-limit-within = lit≤ tt
+limit-positive = tt
 
 zero-bounded : Bounded 0·0
 unfolding ofBits fits
@@ -113,7 +118,7 @@ module _ (M : Float) (f : T (finite M)) (z : T (0·0 ≼ M)) where
       let own = and-l (small-point p) (within 8 slope && small-slopes (q ∷ rest)) t in
       let others = and-r (small-point p) (within 8 slope && small-slopes (q ∷ rest)) t in
       let next = and-r (within 8 slope) (small-slopes (q ∷ rest)) others in
-      either (M ≺ q .mach) (line p q M) (walk q rest M)
+      either (short-of M q) (line p q M) (walk q rest M)
       (λ e. record {
         within = add-within (p .drag) (slope ⊗ (M ⊖ p .mach)) 1 64 (small 65 (lit< tt)) (is-within 1 (p .drag) (and-l (within 1 (p .drag)) (within 4 (p .mach)) (and-r (fits binary64 (p .drag)) _ own)))
             (rise-within slope (p .mach) (is-within 8 slope (and-l (within 8 slope) _ others)) (mach-within p own) (below-within M (q .mach) 4 f z e (mach-within q (first-small q rest next))));
@@ -121,27 +126,34 @@ module _ (M : Float) (f : T (finite M)) (z : T (0·0 ≼ M)) where
       })
       (λ e. walk-bounded q rest next)
 
-  before-bounded : (p : Point) → T (small-point p) → T (cond (SUBSONIC-MACH-LIMIT ≺ p .mach) (within 8 (p .drag ⊘ (p .mach ⊖ SUBSONIC-MACH-LIMIT))) true) → (M ≺ p .mach) ≡ true → Bounded (before p M .value)
-  unfolding before
-  before-bounded p t u e =
-      let slope = p .drag ⊘ (p .mach ⊖ SUBSONIC-MACH-LIMIT) in
-      either (SUBSONIC-MACH-LIMIT ≺ p .mach) _ _
-      (λ late. either (SUBSONIC-MACH-LIMIT ≼ M) _ _
-      (λ above. record {
-        within = within-more (slope ⊗ (M ⊖ SUBSONIC-MACH-LIMIT)) 64 65 (lit≤ tt)
-            (rise-within slope SUBSONIC-MACH-LIMIT (is-within 8 slope (rw late at u)) limit-within (below-within M (p .mach) 4 f z e (mach-within p t)));
-        fits = mul-fits binary64 slope (M ⊖ SUBSONIC-MACH-LIMIT);
-      })
-      (λ below. zero-bounded))
-      (λ early. drag-bounded p t)
-
-  lookup-bounded : (ps : List Point) → T (small-slopes ps) → T (small-start ps) → Bounded (lookup ps M .value)
+  -- from the first point on
+  from-first : (ps : List Point) → 0 < length ps → T (small-slopes ps) → short-of M (getD ps 0 no-point) ≡ false → Bounded (lookup ps M .value)
   unfolding lookup
-  lookup-bounded [] t u = absurd u
-  lookup-bounded (p ∷ rest) t u = either (M ≺ p .mach) (before p M) (walk p rest M) (λ e. before-bounded p (first-small p rest t) u e) (λ e. walk-bounded p rest t)
+  from-first [] h t e = absurd (not-suc-le-zero h)
+  from-first (p ∷ rest) h t e = rw e (walk-bounded p rest t)
+
+  -- below it: run down, or nothing
+  run : (nose : StoneyNose) → T (small-run nose) → (M ≺ firstMach nose) ≡ true → Bounded (valueAndSlope nose M .value)
+  unfolding walk
+  run nose t e = by (M ≺ 0·8) refl
+    where
+      late : (w : Bool) → from-1·2 nose ≡ w → (M ≺ 0·8) ≡ false → T (cond w (small-slopes (at-limit ∷ pointOf nose 0 ∷ [])) true) → Bounded (valueAndSlope nose M .value)
+      late true w l t =
+          let down = run-down nose M (subst T (sym w) tt) (reaches 0·8 M limit-positive f l) (subst T (sym e) tt) in
+          rw down (rw e at (walk-bounded at-limit (pointOf nose 0 ∷ []) t))
+      late false w l t = absurd (true≢false (sym e ∙ ap (λ (p : Point). M ≺ p .mach) (rw w at (starts nose)) ∙ l))
+
+      by : (b : Bool) → (M ≺ 0·8) ≡ b → Bounded (valueAndSlope nose M .value)
+      by true l = rw (below-limit nose M (subst T (sym l) tt)) zero-bounded
+      by false l = late (from-1·2 nose) refl l t
 
 pub table-bounded : (nose : StoneyNose) (M : Float) → T (finite M) → T (0·0 ≼ M) → Bounded (valueAndSlope nose M .value)
 unfolding valueAndSlope
-table-bounded nose M f z =
-    let t = holds-at (λ nose. small-slopes (points nose) && small-start (points nose)) all-small nose in
-    lookup-bounded M f z (points nose) (and-l (small-slopes (points nose)) (small-start (points nose)) t) (and-r (small-slopes (points nose)) (small-start (points nose)) t)
+table-bounded nose M f z = by (M ≺ firstMach nose) refl
+  where
+    t : T (small-slopes (points nose) && small-run nose)
+    t = holds-at (λ nose. small-slopes (points nose) && small-run nose) all-small nose
+
+    by : (b : Bool) → (M ≺ firstMach nose) ≡ b → Bounded (lookup (points nose) M .value)
+    by true e = run M f z nose (and-r (small-slopes (points nose)) (small-run nose) t) e
+    by false e = from-first M f z (points nose) (omega (arith, count-is nose, range-within nose .0)) (and-l (small-slopes (points nose)) (small-run nose) t) e
