@@ -1,4 +1,4 @@
--- The laws that the proofs of the cards share.
+-- The laws that the proofs of the cards share, and laws about a whole card: how far it reaches, its arrays, its count byte.
 pub mod Tests
 pub mod Numbers
 pub mod Extents

@@ -1,4 +1,4 @@
--- The laws that the functions' proofs share.
+-- The laws that the functions' proofs share, and laws on the fixed steps: the root and the floor are what they should be, and how large the steps' results are.
 pub mod Floats
 pub mod Bits
 pub mod Root
