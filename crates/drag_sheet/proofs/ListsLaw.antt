@@ -23,7 +23,7 @@ use Rattle.drag_sheet.specs.Build.{trial}
 use Rattle.drag_sheet.specs.Writing.{whole, overwritten}
 use Rattle.drag_sheet.specs.Calls.{Call, replace, insert, remove, setColumn, argumentsTest, scope, after, callTest, decision, sheetWith, answered, Called, Opened}
 use Rattle.drag_sheet.specs.Model.{openedModel, modelDecision, moved, modelAfter, modelDecisions}
-use Rattle.drag_sheet.specs.Lists.{Sequence, stop, go, Arrays, Matches, Agrees, Session}
+use Rattle.drag_sheet.specs.Lists.{Sequence, stop, go, Arrays, Matches, Agrees, FromOpen}
 use Rattle.drag_sheet.proofs.Overwritten.{Holds, holds-build, whole-holds, keeps}
 use Rattle.drag_sheet.proofs.Answers.{settings-facts, call-facts, Bounds, bounds, contents-with, blank-tried}
 use Rattle.drag_sheet.proofs.Duties.{narrow, call-holds}
@@ -175,7 +175,7 @@ agrees s xs r ys {calls} {last} {zs} k run =
 
 -- Demand 3. The two lengths are those of the arrays of every `Settings`.
 pub lists-agree : (s : Settings) (xs : List Float) (r : Answer) (ys : List Float) → length (s .machs) ≡ most-columns → length (s .reynolds) ≡ most-columns
-    → Opened s xs r ys → Session s xs r ys
+    → Opened s xs r ys → FromOpen s xs r ys
 lists-agree s xs r ys m n o = record {
   answer = ap told (outcome-of s xs r ys o);
   refused = λ e f. open-refused s xs r ys e o f;

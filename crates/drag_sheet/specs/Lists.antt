@@ -45,7 +45,7 @@ pub record Agrees (lent : List Float) (start : Contents) (calls : List Call) (sh
 
 -- Of an open with whatever settings and cells, its answer r and the cells ys that it left: it is answered as the model answers it; refused, it hands back its settings
 -- with no parts and leaves the cells; accepted, every list of calls that follows agrees with the model.
-pub record Session (s : Settings) (lent : List Float) (r : Answer) (ys : List Float) : Type 0 where
+pub record FromOpen (s : Settings) (lent : List Float) (r : Answer) (ys : List Float) : Type 0 where
   pub answer : told (r .outcome) ≡ told (openDecision (length lent) s)
   pub refused : (e : AeroError) → r .outcome ≡ Failed e → (r .sheet ≡ blank s) × (ys ≡ lent)
   pub accepted : r .outcome ≡ Passed → {calls : List Call} {last : Sheet} {zs : List Float} {outcomes : List Check}
