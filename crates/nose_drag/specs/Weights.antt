@@ -7,11 +7,12 @@ use mathlib.Core.List.{[], _∷_, map}
 use lib.Ieee.{Float, ofBits, round, sum, neg, add, sub, mul, div, lt}
 use Rattle.elementary.specs.Arithmetic.{_⊖_, _⊗_, _⊘_, _≺_, bits}
 use Rattle.elementary.specs.Constants.{2·0, 0·0, 0·5, 1·0}
-use Rattle.drag.specs.Constants.{0·25, 3·0}
+use Rattle.drag.specs.Constants.{0·25, 1·5, 3·0}
 use Rattle.stoney.specs.declared.StoneyNose.the-variants.{PowerQuarter, PowerHalf, PowerThreeQuarters, ParabolaHalf, ParabolaThreeQuarters, Parabola}
 use Rattle.nose_drag.specs.declared.curve.Reference.{Reference}
 use Rattle.nose_drag.specs.declared.builder.Bracket.{Bracket}
 use Rattle.nose_drag.specs.Constants.{0·75, one-third}
+use Rattle.nose_drag.specs.Methods.{mixed}
 use Rattle.nose_drag.specs.Curves.{CONE-3, powerBracket, parabolicBracket, weightOf}
 
 -- ---- at the ends of the gaps
@@ -49,6 +50,13 @@ whole-parabolic = refl
 pub measured-haack : (3·0 ⊗ 0·0 ≡ 0·0) × (3·0 ⊗ one-third ≡ 1·0)
 unfolding ofBits round mul div
 measured-haack = (refl, refl)
+
+-- ---- what a weight does
+
+-- from 1 to 3: a quarter of the way at one quarter, the mean at one half, all of it at 1
+pub part-of-the-way : map (mixed 1·0 3·0) (0·25 ∷ 0·5 ∷ 1·0 ∷ []) ≡ 1·5 ∷ 2·0 ∷ 3·0 ∷ []
+unfolding ofBits round sum neg add sub mul
+part-of-the-way = refl
 
 -- ---- not the half-gap weight
 
