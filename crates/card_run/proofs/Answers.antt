@@ -17,13 +17,13 @@ use Rattle.sheet_data.specs.Contents.{contentsOf, blank, Fits}
 use Rattle.sheet_data.specs.Tests.{settingsTest}
 use Rattle.drag_sheet.specs.declared.Answer.{Answer}
 use Rattle.drag_sheet.specs.Writing.{chosen, whole, overwritten}
-use Rattle.drag_sheet.specs.Calls.{Call, insertAt, tries, after, callTest, decision, answered, Called, Opened}
+use Rattle.drag_sheet.specs.Calls.{Call, insert, tries, after, callTest, decision, answered, Called, Opened}
 use Rattle.drag_sheet.proofs.Verdicts.{never}
 use Rattle.drag_sheet.proofs.Answers.{settings-facts, call-facts, bounds}
 use Rattle.cards.specs.declared.SettingsRead.{SettingsRead}
 use Rattle.cards.specs.Cards.{settingsAt}
 use Rattle.card_run.specs.declared.Run.{Run}
-use Rattle.card_run.specs.Run.{Ran, stoppedAt, streamOf, insertLast, sheetAfter, cellsAfter, allPartCards, Stopped}
+use Rattle.card_run.specs.Run.{Ran, stoppedAt, streamOf, lastPlace, insertLast, sheetAfter, cellsAfter, allPartCards, Stopped}
 use Rattle.card_run.proofs.Stream.{sheetThen}
 
 -- ---- what a call's contract says, by its outcome: of the sheet given or left, of the cells xs or zs
@@ -59,14 +59,18 @@ module _ {s : Settings} {xs : List Float} {r : Answer} {ys : List Float} (c : Op
 
 -- ---- an accepted part leaves a sheet within its bounds
 
--- a part inserted last makes one part more
-pub one-more : (n : ℕ) (part : Part) (ps : List Part) → length (insertAt n part (take n ps)) ≡ min n (length ps) + 1
-one-more n part ps =
-    let a = length-append (take n (take n ps)) (part ∷ drop n (take n ps)) in
-    let b = length-take n (take n ps) in
-    let c = length-drop n (take n ps) in
-    let d = length-take n ps in
+-- a part inserted makes one part more, wherever it goes
+inserted : (sheet : Sheet) (place : ℕ) (part : Part) → length (after (insert place part) sheet .parts) ≡ min (sheet .design .count) (length (sheet .design .parts)) + 1
+inserted sheet place part =
+    let ps = contentsOf sheet .parts in
+    let a = length-append (take place ps) (part ∷ drop place ps) in
+    let b = length-take place ps in
+    let c = length-drop place ps in
+    let d = length-take (sheet .design .count) (sheet .design .parts) in
     omega (arith, a, b, c, d)
+
+pub one-more : (sheet : Sheet) (part : Part) → length (after (insertLast sheet part) sheet .parts) ≡ min (sheet .design .count) (length (sheet .design .parts)) + 1
+one-more sheet part = inserted sheet (lastPlace sheet) part
 
 pub record Inserted (sheet : Sheet) (cells : ℕ) : Type 0 where
   pub fits : Fits sheet cells
@@ -81,7 +85,7 @@ accepted-part sheet cells part e =
 pub fits-after : (sheet : Sheet) (part : Part) (cells : ℕ) → decision (insertLast sheet part) sheet cells ≡ Passed → Fits (sheetThen sheet part) cells
 fits-after sheet part cells d =
     let f = accepted-part sheet cells part d in
-    let m = one-more (sheet .design .count) part (sheet .design .parts) in
+    let m = one-more sheet part in
     record { columns = f .fits .columns; parts = omega (arith, m, f .room); room = f .fits .room }
 
 -- an opened sheet is within its bounds

@@ -17,11 +17,11 @@ use Rattle.sheet_data.specs.Layout.{most-parts}
 use Rattle.sheet_data.specs.Contents.{contentsOf, blank}
 use Rattle.sheet_data.specs.Tests.{settingsTest}
 use Rattle.drag_sheet.specs.Writing.{whole, overwritten}
-use Rattle.drag_sheet.specs.Calls.{insertAt}
+use Rattle.drag_sheet.specs.Calls.{after}
 use Rattle.cards.specs.declared.SettingsRead.{SettingsRead}
 use Rattle.cards.specs.Cards.{settingsAt, settings-bytes, part-bytes}
 use Rattle.cards.proofs.Extents.{part-extent, settings-extent}
-use Rattle.card_run.specs.Run.{Ran, partCards, onCheck, stoppedAt, streamFrom, streamOf, stream-bytes}
+use Rattle.card_run.specs.Run.{Ran, insertLast, partCards, onCheck, stoppedAt, streamFrom, streamOf, stream-bytes}
 use Rattle.card_run.proofs.Stream.{sheetThen, cellsThen, same-card, card-first, part-reach}
 use Rattle.card_run.proofs.Answers.{one-more, accepted-part}
 
@@ -32,9 +32,8 @@ Held sheet = sheet .design .count ≤ length (sheet .design .parts)
 -- it has one part more after an insert, and holds them
 pub one-more-held : (sheet : Sheet) (part : Part) → Held sheet → (sheetThen sheet part .design .count ≡ sheet .design .count + 1) × Held (sheetThen sheet part)
 one-more-held sheet part h =
-    let n = sheet .design .count in
-    let new = insertAt n part (take n (sheet .design .parts)) in
-    let a = one-more n part (sheet .design .parts) in
+    let new = after (insertLast sheet part) sheet .parts in
+    let a = one-more sheet part in
     let b = length-append new (drop (length new) (sheet .design .parts)) in
     (omega (arith, a), omega (arith, b))
 

@@ -47,9 +47,12 @@ abbrev pub onCheck : Check → (AeroError → Ran) → Ran → Ran
 onCheck Passed refuse go = go
 onCheck (Failed e) refuse go = refuse e
 
--- a part is inserted last; the sheet and the cells after an accepted one
+-- "each inserted last"; the sheet and the cells after an accepted one
+abbrev pub lastPlace : Sheet → ℕ
+lastPlace sheet = sheet .design .count
+
 abbrev pub insertLast : Sheet → Part → Call
-insertLast sheet part = insert (sheet .design .count) part
+insertLast sheet part = insert (lastPlace sheet) part
 
 abbrev pub sheetAfter : Call → Sheet → Sheet
 sheetAfter call sheet = sheetWith (after call sheet) sheet
