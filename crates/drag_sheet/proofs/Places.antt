@@ -1,5 +1,5 @@
--- Refusals 8 and 9 by laws of their own: 8 is given exactly where the place or the column isn't there, 9 exactly where 16 parts stand, of every call, sheet and number
--- of cells, and of the model. No test of settings, parts or rows gives either (`Other`).
+-- Refusals 8 and 9 by laws of their own: 8 is given exactly where the place or the column isn't there, 9 exactly where 16 parts stand and one more is put in, or a sheet
+-- is given with more than 16; of every call, sheet and number of cells, and of a model of 16 parts at most. No test of settings, parts or rows gives either (`Other`).
 use mathlib.Core.Path.{_≡_, refl, ap}
 use mathlib.Core.Logic.{_↔_, _⊎_, inl, inr, ⊎-elim}
 use mathlib.Core.Bool.{true, _&&_}
@@ -160,7 +160,7 @@ module _ (call : Call) (sheet : Sheet) (cells : ℕ) where
       ⊎ ((sheetTest (sheet .settings) cells (sheet .design .count) (contentsOf sheet .parts) ≡ Passed) × Full call (sheet .design .count)))
   design-full = rw assoc (nine call (sheet .settings) cells (sheet .design .count) (contentsOf sheet .parts) _ (other-tries 9 (omega arith) (omega arith) call (after call sheet)))
 
--- the hand copy's answers; it has 16 parts at most
+-- the hand copy's answers, 9 where it has 16 parts at most
 module _ (cells : ℕ) (call : Call) (m : Contents) where
   pub model-no-such-place : (modelDecision cells call m ≡ Failed (Broken NoSuchPlace))
       ↔ ((sheetTest (m .settings) cells (length (m .parts)) (m .parts) ≡ Passed) × Absent call (m .settings) (length (m .parts)))

@@ -69,10 +69,10 @@ abbrev pub 0·625 : Float
 0·625 = bits 0x3fe4000000000000
 
 -- midway the weight is one half; by half the gap it would be 1
-midway :
+half-at-5/8 :
     (weightOf (powerBracket 0·625) 0·625 ≡ 0·5) × (weightOf (parabolicBracket 0·625) 0·625 ≡ 0·5) × (half-gap 0·625 ≡ 1·0)
 unfolding powerBracket parabolicBracket weightOf ofBits round sub add sum neg mul div lt
-midway = (refl, refl, refl)
+half-at-5/8 = (refl, refl, refl)
 
 half-is-less : (0·5 ≺ 1·0) ≡ true
 unfolding ofBits lt
@@ -87,4 +87,4 @@ half-not-one e = true≢false (sym half-is-less ∙ ap (λ (x : Float). x ≺ 1�
 
 pub not-half-gap :
     ((weightOf (powerBracket 0·625) 0·625 ≡ half-gap 0·625) → ⊥) × ((weightOf (parabolicBracket 0·625) 0·625 ≡ half-gap 0·625) → ⊥)
-not-half-gap = ((λ e. half-not-one (sym (midway .0) ∙ e ∙ midway .2)), λ e. half-not-one (sym (midway .1) ∙ e ∙ midway .2))
+not-half-gap = ((λ e. half-not-one (sym (half-at-5/8 .0) ∙ e ∙ half-at-5/8 .2)), λ e. half-not-one (sym (half-at-5/8 .1) ∙ e ∙ half-at-5/8 .2))
