@@ -5,6 +5,8 @@
 //! A status is 0 accepted, else the refusal's number plus 256 times its code, or `NO_SUCH`. Where
 //! the interface says that nothing is written, nothing is.
 
+use std::num::FpCategory;
+
 use cobalnis::words::{
     PartWords, SheetWords, FIRST_PART, MACHS_AT, PARTS_AT, PART_WORDS, REYNOLDS_AT,
 };
@@ -53,6 +55,17 @@ pub fn takes_cone_formula(shape: u64, parameter: f64) -> u32 {
         return NO_SUCH;
     }
     u32::from(takes_cone(shape_of(shape, parameter)))
+}
+
+/// The class's number; the original has no such function, so this is the standard library's.
+pub fn classify(bits: u64) -> u32 {
+    match f64::from_bits(bits).classify() {
+        FpCategory::Zero => 0,
+        FpCategory::Subnormal => 1,
+        FpCategory::Normal => 2,
+        FpCategory::Infinite => 3,
+        FpCategory::Nan => 4,
+    }
 }
 
 // ---- noses and curves

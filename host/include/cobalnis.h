@@ -152,6 +152,15 @@ enum {
     COBALNIS_NOSE_VON_KARMAN
 };
 
+/* IEEE 754's classes of a double. */
+enum {
+    COBALNIS_CLASS_ZERO,
+    COBALNIS_CLASS_SUBNORMAL,
+    COBALNIS_CLASS_NORMAL,
+    COBALNIS_CLASS_INFINITY,
+    COBALNIS_CLASS_NAN
+};
+
 /* ---- the library's functions */
 
 /* The formula of a number, COBALNIS_FORMULA_..; bits: its value, or the value
@@ -164,6 +173,9 @@ uint32_t cobalnis_check_dimension(uint32_t what, double value, bool allow_zero, 
 
 /* Whether a shape takes any of the closed form for cones: 1 yes, 0 no. */
 uint32_t cobalnis_takes_cone_formula(uint64_t shape, double parameter);
+
+/* The class of a double's bits, COBALNIS_CLASS_..; any 64 bits have one. */
+uint32_t cobalnis_classify(uint64_t bits);
 
 /* Mach number and drag of a nose's measured point. */
 uint32_t cobalnis_nose_point(uint32_t nose, size_t place, uint64_t out[2]);
@@ -276,7 +288,7 @@ static inline uint64_t cobalnis_bits(double x)
 {
     uint64_t bits;
     memcpy(&bits, &x, sizeof bits);
-    return (bits & 0x7fffffffffffffffu) > 0x7ff0000000000000u ? 0x7ff8000000000000u : bits;
+    return cobalnis_classify(bits) == COBALNIS_CLASS_NAN ? 0x7ff8000000000000u : bits;
 }
 
 /* A status, with the value for whoever asked for it. */

@@ -41,6 +41,7 @@ pub mod raw {
             bits: *mut u64,
         ) -> u32;
         pub fn cobalnis_takes_cone_formula(shape: u64, parameter: f64) -> u32;
+        pub fn cobalnis_classify(bits: u64) -> u32;
         pub fn cobalnis_nose_point(nose: u32, place: usize, out: *mut [u64; 2]) -> u32;
         pub fn cobalnis_nose_lookup(nose: u32, mach: f64, out: *mut [u64; 3]) -> u32;
         pub fn cobalnis_curve(
@@ -130,6 +131,12 @@ pub fn check_dimension(what: u32, value: f64, allow_zero: bool) -> (u32, u64) {
 pub fn takes_cone_formula(shape: u64, parameter: f64) -> u32 {
     // SAFETY: no pointer is passed.
     unsafe { raw::cobalnis_takes_cone_formula(shape, parameter) }
+}
+
+/// The number of the class that the bits are in.
+pub fn classify(bits: u64) -> u32 {
+    // SAFETY: no pointer is passed.
+    unsafe { raw::cobalnis_classify(bits) }
 }
 
 /// A status, and the bits of a point's Mach number and drag.
@@ -295,8 +302,8 @@ pub fn print(bytes: &[u8], out: &mut [u8]) -> usize {
     unsafe { raw::cobalnis_print(bytes.as_ptr(), bytes.len(), out.as_mut_ptr(), out.len()) }
 }
 
-/// Gives every NaN among the cells the bits 7ff8000000000000 (docs/REFERENCE.md, Numbers). Whole
-/// numbers are compared, since a compiler may take any NaN for any other.
+/// Gives every NaN among the cells the bits 7ff8000000000000 (docs/REFERENCE.md, Numbers). They are
+/// written as whole numbers, since a compiler may take any NaN for any other.
 pub fn settle(cells: &mut [f64]) {
     const NAN: u64 = 0x7ff8_0000_0000_0000;
     // SAFETY: an `f64` and a `u64` have the same size and alignment, any bits are one of either,
@@ -304,7 +311,7 @@ pub fn settle(cells: &mut [f64]) {
     let words =
         unsafe { std::slice::from_raw_parts_mut(cells.as_mut_ptr().cast::<u64>(), cells.len()) };
     for word in words {
-        if *word & !(1 << 63) > 0x7ff0_0000_0000_0000 {
+        if f64::from_bits(*word).is_nan() {
             *word = NAN;
         }
     }

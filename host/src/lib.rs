@@ -8,15 +8,18 @@
 //! - [`formulas`]: one function for each formula, under the original's name.
 //! - [`Curve`]: the pressure drag of a nose against Mach number; [`Nose`]: Stoney's measured ones.
 //! - [`Sheet`]: parts and columns, and the drag of each part at each column, kept right by edits.
+//! - [`classify`]: which of IEEE 754's five classes any 64 bits are in.
 //! - [`Settings::read`], [`Part::read`], [`print`]: cards.
 //! - [`words`]: the same by numbers and words, as the C interface has them.
 
 mod c;
+mod class;
 mod curve;
 pub mod formulas;
 mod refusal;
 mod sheet;
 
+pub use class::{classify, FloatClass};
 pub use curve::{takes_cone_formula, Curve, Nose, Shape};
 pub use formulas::Formula;
 pub use refusal::{check_dimension, Quantity, Refusal};
@@ -30,9 +33,9 @@ pub use c::raw;
 /// The types above are made of these; a host has them for sheets that it keeps as plain memory.
 pub mod words {
     pub use crate::c::{
-        check_dimension, curve, formula, insert, nose_lookup, nose_point, open, print, read_part,
-        read_settings, remove, replace, set_column, takes_cone_formula, PartWords, SheetWords,
-        FIRST_PART, MACHS_AT, PARTS_AT, PART_WORDS, REYNOLDS_AT, SHEET_WORDS,
+        check_dimension, classify, curve, formula, insert, nose_lookup, nose_point, open, print,
+        read_part, read_settings, remove, replace, set_column, takes_cone_formula, PartWords,
+        SheetWords, FIRST_PART, MACHS_AT, PARTS_AT, PART_WORDS, REYNOLDS_AT, SHEET_WORDS,
     };
     pub use crate::sheet::LONGEST_TEXT;
 }

@@ -53,6 +53,45 @@ static void raw_formulas(void)
     CHECK(cobalnis_takes_cone_formula(6, 0) == COBALNIS_NO_SUCH);
 }
 
+/* Each pattern has its class with either sign. */
+static void classes(void)
+{
+    static const struct {
+        uint64_t bits;
+        uint32_t class;
+    } EDGES[] = {
+        {0, COBALNIS_CLASS_ZERO},
+        {1, COBALNIS_CLASS_SUBNORMAL}, /* 2^-1074 */
+        {0x000fffffffffffffu, COBALNIS_CLASS_SUBNORMAL}, /* the largest */
+        {0x0010000000000000u, COBALNIS_CLASS_NORMAL}, /* 2^-1022 */
+        {0x3ff0000000000000u, COBALNIS_CLASS_NORMAL}, /* 1 */
+        {0x7fefffffffffffffu, COBALNIS_CLASS_NORMAL}, /* the largest finite number */
+        {0x7ff0000000000000u, COBALNIS_CLASS_INFINITY},
+        {0x7ff0000000000001u, COBALNIS_CLASS_NAN}, /* signalling, the least payload */
+        {0x7ff7ffffffffffffu, COBALNIS_CLASS_NAN}, /* signalling, the greatest */
+        {0x7ff8000000000000u, COBALNIS_CLASS_NAN}, /* quiet, payload 0 */
+        {0x7fffffffffffffffu, COBALNIS_CLASS_NAN}, /* quiet, the greatest payload */
+    };
+    for (size_t i = 0; i < sizeof EDGES / sizeof EDGES[0]; i++) {
+        CHECK(cobalnis_classify(EDGES[i].bits) == EDGES[i].class);
+        CHECK(cobalnis_classify(EDGES[i].bits | 1ull << 63) == EDGES[i].class);
+    }
+}
+
+/* What cobalnis_bits hands out of each class: the number's own bits, and one
+ * pattern for all NaNs. */
+static void bits_of_numbers(void)
+{
+    static const uint64_t KEPT[] = {0, 1, 0x000fffffffffffffu, 0x0010000000000000u,
+                                    0x7fefffffffffffffu, 0x7ff0000000000000u};
+    for (size_t i = 0; i < sizeof KEPT / sizeof KEPT[0]; i++) {
+        CHECK(cobalnis_bits(cobalnis_double(KEPT[i])) == KEPT[i]);
+        CHECK(cobalnis_bits(-cobalnis_double(KEPT[i])) == (KEPT[i] | 1ull << 63));
+    }
+    CHECK(cobalnis_bits(cobalnis_double(0x7ff8000000000001u)) == SHOWN_NAN);
+    CHECK(cobalnis_bits(cobalnis_double(0xffffffffffffffffu)) == SHOWN_NAN);
+}
+
 static void raw_noses(void)
 {
     uint64_t two[2] = {7, 7}, three[3] = {7, 7, 7};
@@ -322,6 +361,8 @@ int main(void)
 {
     CHECK(cobalnis_number(DOMAIN_OF(22)) == 1 && cobalnis_code(DOMAIN_OF(22)) == 22);
     raw_formulas();
+    classes();
+    bits_of_numbers();
     raw_noses();
     raw_curve();
     steps();

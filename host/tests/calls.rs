@@ -3,8 +3,11 @@
 
 mod common;
 
+use std::num::FpCategory;
+
 use cobalnis::formulas::*;
-use cobalnis::{check_dimension, takes_cone_formula, Curve, Nose, Quantity, Shape};
+use cobalnis::{check_dimension, classify, takes_cone_formula};
+use cobalnis::{Curve, FloatClass, Nose, Quantity, Shape};
 
 use common::{domain, refusal, stream, INFINITY, NAN};
 
@@ -23,6 +26,46 @@ fn fixed_steps() {
     assert!(powf(-1.0, 2.0).is_nan());
     assert_eq!(sin(0.0), 0.0);
     assert!(sin(NAN).is_nan());
+}
+
+#[test]
+fn classes() {
+    use FloatClass::{Infinity, NaN, Normal, Subnormal, Zero};
+    let edges = [
+        (0, Zero),
+        (1, Subnormal),                     // 2^-1074
+        (0x000f_ffff_ffff_ffff, Subnormal), // the largest
+        (0x0010_0000_0000_0000, Normal),    // 2^-1022
+        (0x3ff0_0000_0000_0000, Normal),    // 1
+        (0x7fef_ffff_ffff_ffff, Normal),    // the largest finite number
+        (0x7ff0_0000_0000_0000, Infinity),
+        (0x7ff0_0000_0000_0001, NaN), // signalling, the least payload
+        (0x7ff7_ffff_ffff_ffff, NaN), // signalling, the greatest
+        (0x7ff8_0000_0000_0000, NaN), // quiet, payload 0
+        (0x7fff_ffff_ffff_ffff, NaN), // quiet, the greatest payload
+    ];
+    for (bits, class) in edges {
+        assert_eq!(classify(bits), class, "{bits:016x}");
+        assert_eq!(classify(bits | 1 << 63), class, "-{bits:016x}");
+    }
+}
+
+/// Every exponent field with the ends and the middle of the significand field.
+#[test]
+fn classes_of_every_exponent() {
+    for exponent in 0..4096 {
+        for significand in [0, 1, (1 << 51) - 1, 1 << 51, (1 << 52) - 1] {
+            let bits = exponent << 52 | significand;
+            let class = match f64::from_bits(bits).classify() {
+                FpCategory::Zero => FloatClass::Zero,
+                FpCategory::Subnormal => FloatClass::Subnormal,
+                FpCategory::Normal => FloatClass::Normal,
+                FpCategory::Infinite => FloatClass::Infinity,
+                FpCategory::Nan => FloatClass::NaN,
+            };
+            assert_eq!(classify(bits), class, "{bits:016x}");
+        }
+    }
 }
 
 #[test]

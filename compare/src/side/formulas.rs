@@ -133,6 +133,31 @@ pub fn check_dimension(count: u64, random: &mut Random) -> Row {
     row
 }
 
+/// Every exponent field with the ends of the significand field, and any bits. The answer is no
+/// status.
+pub fn classify(count: u64, random: &mut Random) -> Row {
+    let mut row = Row::new("classify (Rust's own `f64::classify`)");
+    let mut ask = |bits: u64| {
+        let (port, theirs) = (words::classify(bits), mirror::classify(bits));
+        row.note(0, port == theirs, || {
+            written(&[bits], &[port.into()], &[theirs.into()])
+        });
+    };
+    for exponent in 0..4096 {
+        for significand in [0, 1, (1 << 51) - 1, 1 << 51, (1 << 52) - 2, (1 << 52) - 1] {
+            ask(exponent << 52 | significand);
+        }
+    }
+    for _ in 0..count {
+        ask(match random.bits() % 4 {
+            0 => random.subnormal().to_bits(),
+            1 => random.bits() | 0x7ff << 52,
+            _ => random.bits(),
+        });
+    }
+    row
+}
+
 pub fn takes_cone_formula(count: u64, random: &mut Random) -> Row {
     let mut row = Row::new("takes_cone_formula");
     for shape in 0..8 {

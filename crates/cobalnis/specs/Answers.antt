@@ -8,6 +8,9 @@ use lib.Seq.{sets}
 use lib.Dec.{eqb, leb, ltb}
 use lib.Ieee.{Float, nan, toBits, binary64}
 use Rattle.elementary.specs.Constants.{0·0}
+use Rattle.elementary.specs.declared.class.FloatClass.{FloatClass}
+use Rattle.elementary.specs.declared.class.FloatClass.the-variants.{Zero, Subnormal, Normal, Infinity, NaN}
+use Rattle.elementary.specs.Classes.{InClass}
 use Rattle.elementary.specs.Steps.{SQRT, LN, EXP, POW, SIN}
 use Rattle.aero_error.specs.declared.AeroError.{AeroError}
 use Rattle.aero_error.specs.declared.AeroError.the-variants.{Broken}
@@ -114,6 +117,21 @@ dimensionStatus what ok = cond (isCode what) (cond ok 0 (1 + 256 * what)) no-suc
 
 abbrev pub dimensionBits : ℕ → Bool → Float → ℕ → ℕ
 dimensionBits what ok value before = cond (isCode what) (cond ok 0 (toBits binary64 value)) before
+
+-- ---- the classes of IEEE 754, by their numbers from 0
+
+abbrev pub classNumber : FloatClass → ℕ
+classNumber Zero = 0
+classNumber Subnormal = 1
+classNumber Normal = 2
+classNumber Infinity = 3
+classNumber NaN = 4
+
+-- r is the number of the class that the bits b are in
+pub record ClassShown (b r : ℕ) : Type 0 where
+  pub class : FloatClass
+  pub holds : InClass class b
+  pub shown : r ≡ classNumber class
 
 -- ---- Stoney's noses, by their numbers from 0
 

@@ -5,12 +5,14 @@
 // An answer is a status: 0 is accepted, else the refusal's number plus 256 times the code of refusal 1; `NO_SUCH` is for a number that names
 // nothing. A float is handed out by its bits, 7ff8000000000000 for every NaN. `words` has a part and a sheet as words.
 mod answers;
+mod floats;
 mod formulas;
 mod noses;
 mod sheets;
 mod stream;
 mod words;
 
+pub use floats::cobalnis_classify;
 pub use formulas::cobalnis_check_dimension;
 pub use formulas::cobalnis_formula;
 pub use formulas::cobalnis_takes_cone_formula;

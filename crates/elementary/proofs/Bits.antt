@@ -1,53 +1,28 @@
--- `splitOf` speaks of a float's value, and the code of its 64 bits: both take the float apart alike.
+-- `splitOf` speaks of a float's value, and the code of its 64 bits, class by class: both take the float apart alike (`split-class`).
 use mathlib.Core.Path.{_≡_, refl, sym, ap, _∙_, subst, subst₂}
-use mathlib.Core.Bool.{Bool, true, false, cond, not, _&&_}
+use mathlib.Core.Bool.{Bool, cond, _&&_}
 use Prim.Native.Nat.{ℕ, zero, suc, _+_, _-_, _*_, _/_, _%_, _^_, _≤_, _<_}
-use native.Mathlib.Nat.{zero-mul, zero-div, mul-assoc, mul-one, mul-div-cancel, mul-div-mul-right, div-lt-iff-lt-mul, le-div-iff-mul-le, lt-of-lt-of-le, lt-of-not-le, not-le-of-lt, le-of-suc-le-suc, lt-irrefl, le-antisymm, add-comm, mul-right-comm, le-of-eq, mul-lt-mul-of-pos-right, lt-of-mul-lt-mul-right, mul-pos, zero-lt-suc}
+use native.Mathlib.Nat.{mul-assoc, mul-comm, mul-one, mul-div-cancel, div-lt-iff-lt-mul, le-div-iff-mul-le, lt-of-lt-of-le, lt-of-not-le, not-le-of-lt, le-of-suc-le-suc, lt-irrefl, le-antisymm, mul-right-comm, le-of-eq, mul-le-mul-right, mul-lt-mul-of-pos-right, lt-of-mul-lt-mul-right, mul-pos, zero-lt-suc}
 use native.Mathlib.Omega.{arith}
 use lib.IntN.{ℤ, pos, negsuc}
-use native.Mathlib.Decide.{decLe}
-use lib.Dec.{T, lit<, leb, ltb, eqb, ltb→lt, leb→le}
+use lib.Dec.{T, leb, ltb, eqb, ltb→lt, leb→le}
 use lib.Arith.{lt-one}
-use lib.Pow.{shr-lt, shl-exact, pow-add, pow-pos, pow-mono, pow-lt}
+use lib.Pow.{shl-lt, shl-exact, pow-add, pow-pos, pow-mono, pow-lt}
 use lib.Count.{leadingZeros, leading-top}
-use lib.Ieee.{Float, nan, inf, fin, binary64, up, down, size, fits, isNan, toBits}
+use lib.Ieee.{Float, nan, inf, fin, binary64, up, down, size, fits, toBits}
+use lib.Ieee.Bits.{ofBits-toBits}
 use lib.Ieee.Digits.{back, size-lt, size-le, size-reaches}
 use lib.Ieee.Fits.{down-pos, and-l, and-r}
-use borrow.Author.Tests.{lt-leb, le-leb, ne-eqb}
-use Rattle.elementary.specs.declared.split.Parts.{Parts}
-use Rattle.elementary.specs.declared.split.Parts.the-variants.{Infinite, Zero, Finite}
+use lib.Ieee.Exact.{HasValue}
+use Rattle.elementary.specs.declared.class.FloatClass.{FloatClass}
+use Rattle.elementary.specs.declared.class.FloatClass.the-variants.{Zero, Subnormal, Normal, Infinity, NaN}
+use Rattle.elementary.specs.declared.split.Parts.the-variants.{Finite}
+use Rattle.elementary.specs.Classes.{signBit, exponentField, significandField, InClass, Stands, splitClass}
 use Rattle.elementary.specs.Split.{units, normalised, splitOf, Taken}
-
--- ---- what the code does with the bits
-
--- the sign, and the 63 bits below it
-abbrev withSign : Bool → ℕ → ℕ
-withSign s g = cond s (2 ^ 63) 0 + g
+use Rattle.elementary.proofs.Classes.{field-narrow, stands, no-zero}
 
 abbrev pub shift : ℕ → ℕ
 shift t = leadingZeros 64 t - 11
-
-abbrev pub splitFields : Bool → ℕ → ℕ → Parts
-splitFields s x t =
-    cond (eqb x 2047) (Infinite s)
-    (cond (eqb x 0) (cond (eqb t 0) (Zero s) (Finite s (t * 2 ^ shift t) (53 - shift t)))
-    (Finite s (2 ^ 52 + t) (x + 52)))
-
-abbrev pub splitBits : ℕ → Parts
-splitBits b = splitFields (leb (2 ^ 63) b) (b % 2 ^ 63 / 2 ^ 52) (b % 2 ^ 63 % 2 ^ 52)
-
-sign-off : (s : Bool) (g : ℕ) → g < 2 ^ 63 → (leb (2 ^ 63) (withSign s g) ≡ s) × (withSign s g % 2 ^ 63 ≡ g)
-sign-off true g h = (le-leb (2 ^ 63) (2 ^ 63 + g) (omega arith), omega arith)
-sign-off false g h = (lt-leb (2 ^ 63) (0 + g) (omega arith), omega arith)
-
--- a field x and a fraction t below the sign
-at-fields : (s : Bool) (x t : ℕ) → x < 2048 → t < 2 ^ 52 → splitBits (withSign s (x * 2 ^ 52 + t)) ≡ splitFields s x t
-at-fields s x t h k =
-    let g = x * 2 ^ 52 + t in
-    let o = sign-off s g (omega arith) in
-    let a : g / 2 ^ 52 ≡ x = omega arith in
-    let b : g % 2 ^ 52 ≡ t = omega arith in
-    simp (o .0, o .1, a, b)
 
 -- ---- how many digits n has
 
@@ -57,18 +32,31 @@ size-is n j a b = le-antisymm (size-le n (suc j) b) (lt-of-not-le (λ (g : size 
 leading-size : (t : ℕ) → 0 < t → t < 2 ^ 64 → leadingZeros 64 t + size t ≡ 64
 leading-size t p h = let l = leading-top 64 t p h in rw (size-is t (l .0) (l .2) (l .3)) (l .1)
 
--- a fraction other than zero has from 12 to 63 leading zeros, and nothing is shifted out of it
+small-normalised : (n d : ℕ) → d ≤ 53 → normalised n d ≡ n * 2 ^ (53 - d)
+small-normalised n d h =
+    ap (λ (a : ℕ). n * a / 2 ^ d) (ap (λ (a : ℕ). 2 ^ a) (sym (back 53 d h)) ∙ pow-add 2 (53 - d) d)
+    ∙ ap (λ (a : ℕ). a / 2 ^ d) (sym (mul-assoc n (2 ^ (53 - d)) (2 ^ d)))
+    ∙ mul-div-cancel (n * 2 ^ (53 - d)) (pow-pos d)
+
+-- a field other than zero has from 12 to 63 leading zeros; shifted, nothing of it is lost and it has 53 digits
 pub record Room (t : ℕ) : Type 0 where
   pub low : 12 ≤ leadingZeros 64 t
   pub high : leadingZeros 64 t ≤ 63
-  pub kept : t * 2 ^ shift t % 2 ^ 64 ≡ t * 2 ^ shift t
+  pub kept : t * 2 ^ shift t % 2 ^ 64 ≡ normalised t (size t)
+  pub digits : 53 - shift t ≡ size t
 
 pub room : (t : ℕ) → (t ≡ 0 → ⊥) → t < 2 ^ 52 → Room t
 room t nz h =
     let l : leadingZeros 64 t + size t ≡ 64 = leading-size t (omega arith) (omega arith) in
     let d : size t ≤ 52 = size-le t 52 h in
     let p : (size t ≡ 0 → ⊥) = λ (z : size t ≡ 0). nz (lt-one (subst (λ (k : ℕ). t < 2 ^ k) z (size-lt t))) in
-    record { low = omega arith; high = omega arith; kept = shl-exact (size t) (shift t) 64 (size-lt t) (omega arith) }
+    let k : shift t ≡ 53 - size t = omega arith in
+    record {
+      low = omega arith;
+      high = omega arith;
+      kept = shl-exact (size t) (shift t) 64 (size-lt t) (omega arith) ∙ ap (λ (a : ℕ). t * 2 ^ a) k ∙ sym (small-normalised t (size t) (omega arith));
+      digits = omega arith;
+    }
 
 -- ---- what binary64 holds is a whole number of 2 ^ -1074
 
@@ -124,8 +112,6 @@ in-units m e h =
           (lt-of-lt-of-le (mul-lt-mul-of-pos-right (h .finite) (pow-pos 1074)) (le-of-eq (mul-right-comm (2 ^ 1024) (down e) (2 ^ 1074)))));
     }
 
--- ---- the two ways to take a number apart agree
-
 -- n units, by the bits: `toBits`
 abbrev pub bitsOf : Bool → ℕ → ℕ
 bitsOf s n = cond s (2 ^ 63) 0 + (size n - 53) * 2 ^ 52 + n / 2 ^ (size n - 53)
@@ -134,59 +120,49 @@ pub to-bits : (s : Bool) (m : ℕ) (e : ℤ) → toBits binary64 (fin s m e) ≡
 unfolding toBits
 to-bits s m e = refl
 
-normal-small : (n d : ℕ) → d ≤ 53 → normalised n d ≡ n * 2 ^ (53 - d)
-normal-small n d h =
-    ap (λ (a : ℕ). n * a / 2 ^ d) (ap (λ (a : ℕ). 2 ^ a) (sym (back 53 d h)) ∙ pow-add 2 (53 - d) d)
-    ∙ ap (λ (a : ℕ). a / 2 ^ d) (sym (mul-assoc n (2 ^ (53 - d)) (2 ^ d)))
-    ∙ mul-div-cancel (n * 2 ^ (53 - d)) (pow-pos d)
+-- ---- the split of each class
 
--- fewer than 53 digits: the field is 0, and the fraction is n
-small : (s : Bool) (n : ℕ) → 0 < n → size n ≤ 52 → Finite s (normalised n (size n)) (size n) ≡ splitBits (bitsOf s n)
-small s n p h =
-    let below : n < 2 ^ 52 = lt-of-lt-of-le (size-lt n) (pow-mono h) in
-    let none : size n - 53 ≡ 0 = omega arith in
-    let l : leadingZeros 64 n + size n ≡ 64 = leading-size n p (omega arith) in
-    let t : shift n ≡ 53 - size n = omega arith in
-    let d : 53 - (53 - size n) ≡ size n = omega arith in
-    let b : cond s (2 ^ 63) 0 + 0 * 2 ^ 52 + n / 2 ^ 0 ≡ withSign s (0 * 2 ^ 52 + n) = omega arith in
-    let nz : eqb n 0 ≡ false = ne-eqb n 0 (λ (z : n ≡ 0). omega arith) in
-    sym (rw (none, b, at-fields s 0 n (lit< tt) below, nz, t, d, normal-small n (size n) (omega arith)))
+-- x is n units
+split-units : (x : Float) (s : Bool) (n : ℕ) → HasValue x s n (2 ^ 1074) → 0 < n → splitOf x ≡ Finite s (normalised n (size n)) (size n)
+unfolding splitOf
+split-units nan s n v p = absurd v
+split-units (inf t) s n v p = absurd v
+split-units (fin t zero e) s n v p = absurd (no-zero t s e n v p)
+split-units (fin t (suc m) e) s n v p =
+    let u : units (suc m) e ≡ n = ap (λ (a : ℕ). a / down e) (v .1) ∙ mul-div-cancel n (down-pos e) in
+    rw (v .0, u)
 
--- 53 digits or more: the field counts those that are dropped, and one more
-large : (s : Bool) (n k : ℕ) → size n ≡ k + 53 → k < 2046 → Finite s (normalised n (size n)) (size n) ≡ splitBits (bitsOf s n)
-large s n k z h =
-    let q = n / 2 ^ k in
-    let lt : q < 2 ^ 53 = shr-lt 53 k (subst (λ (d : ℕ). n < 2 ^ d) (z ∙ add-comm k 53) (size-lt n)) in
-    let ge : 2 ^ 52 ≤ q = le-div-iff-mul-le (pow-pos k) .1 (subst (λ (a : ℕ). a ≤ n) (pow-add 2 52 k) (size-reaches n (52 + k) (omega arith))) in
-    let none : k + 53 - 53 ≡ k = omega arith in
-    let b : cond s (2 ^ 63) 0 + k * 2 ^ 52 + q ≡ withSign s ((k + 1) * 2 ^ 52 + (q - 2 ^ 52)) = omega arith in
-    let i : eqb (k + 1) 2047 ≡ false = ne-eqb (k + 1) 2047 (λ (e : k + 1 ≡ 2047). omega arith) in
-    let j : eqb (k + 1) 0 ≡ false = ne-eqb (k + 1) 0 (λ (e : k + 1 ≡ 0). omega arith) in
-    let g : 2 ^ 52 + (q - 2 ^ 52) ≡ q = omega arith in
-    let d : k + 1 + 52 ≡ k + 53 = omega arith in
-    let w : normalised n (k + 53) ≡ q = ap (λ (a : ℕ). n * 2 ^ 53 / a) (pow-add 2 k 53) ∙ mul-div-mul-right n (2 ^ k) (pow-pos 53) in
-    sym (rw (z, none, b, at-fields s (k + 1) (q - 2 ^ 52) (omega arith) (omega arith), i, j, g, d, w))
+-- g, of 53 digits, with k places below it
+full-size : (g k : ℕ) → 2 ^ 52 ≤ g → g < 2 ^ 53 → size (g * 2 ^ k) ≡ 53 + k
+full-size g k l h =
+    let e : 53 + k ≡ suc (52 + k) = omega arith in
+    size-is (g * 2 ^ k) (52 + k) (subst (λ (a : ℕ). a ≤ g * 2 ^ k) (sym (pow-add 2 52 k)) (mul-le-mul-right (2 ^ k) l)) (subst (λ (d : ℕ). g * 2 ^ k < 2 ^ d) e (shl-lt 53 k h)) ∙ sym e
 
-finite-bits : (s : Bool) (n : ℕ) → 0 < n → n < 2 ^ 2098 → Finite s (normalised n (size n)) (size n) ≡ splitBits (bitsOf s n)
-finite-bits s n p h =
-    let top : size n ≤ 2098 = size-le n 2098 h in
-    elim (decLe (size n) 52) [
-      | yes a ↦ small s n p a
-      | no a ↦ large s n (size n - 53) (omega arith) (omega arith)
-    ]
+full-normalised : (g k : ℕ) → normalised (g * 2 ^ k) (53 + k) ≡ g
+full-normalised g k =
+    ap (λ (a : ℕ). a / 2 ^ (53 + k)) (mul-assoc g (2 ^ k) (2 ^ 53) ∙ ap (λ (a : ℕ). g * a) (mul-comm (2 ^ k) (2 ^ 53) ∙ sym (pow-add 2 53 k))) ∙ mul-div-cancel g (pow-pos (53 + k))
 
-none : (s : Bool) → Zero s ≡ splitBits (bitsOf s 0)
-unfolding size
-none true = refl
-none false = refl
+normal-split : (x : Float) (s : Bool) (f t : ℕ) → HasValue x s ((2 ^ 52 + t) * 2 ^ (f - 1)) (2 ^ 1074) → 1 ≤ f → t < 2 ^ 52 → splitOf x ≡ Finite s (2 ^ 52 + t) (f + 52)
+normal-split x s f t v p h =
+    let g = 2 ^ 52 + t in
+    let k = f - 1 in
+    let z : size (g * 2 ^ k) ≡ 53 + k = full-size g k (omega arith) (omega arith) in
+    let d : 53 + k ≡ f + 52 = omega arith in
+    split-units x s (g * 2 ^ k) v (mul-pos (omega arith) (pow-pos k)) ∙ rw (z, full-normalised g k, d)
 
-pub split-bits : (x : Float) → T (fits binary64 x) → T (not (isNan x)) → splitOf x ≡ splitBits (toBits binary64 x)
-unfolding splitOf isNan
-split-bits nan h k = absurd k
-split-bits (inf true) h k = unfold toBits in refl
-split-bits (inf false) h k = unfold toBits in refl
-split-bits (fin s zero e) h k = rw (to-bits s zero e, zero-mul, zero-mul, zero-div) (none s)
-split-bits (fin s (suc m) e) h k = let u = in-units m e (held s m e h) in rw (to-bits s (suc m) e) (finite-bits s (units (suc m) e) (u .some) (u .few))
+-- what the bits stand for is taken apart as the class says
+pub split-class : (x : Float) → T (fits binary64 x) → (c : FloatClass) → InClass c (toBits binary64 x) → splitOf x ≡ splitClass c (toBits binary64 x)
+split-class x h c i = go c i (subst (Stands c b) (ofBits-toBits binary64 x h) (stands c b i))
+  where
+    b : ℕ
+    b = toBits binary64 x
+
+    go : (c : FloatClass) → InClass c b → Stands c b x → splitOf x ≡ splitClass c b
+    go Zero i v = ap splitOf v ∙ unfold splitOf in refl
+    go Subnormal i v = split-units x (signBit b) (significandField b) v (omega (arith, i .1))
+    go Normal i v = normal-split x (signBit b) (exponentField b) (significandField b) v (i .0) (field-narrow b)
+    go Infinity i v = ap splitOf v ∙ unfold splitOf in refl
+    go NaN i v = ap splitOf v ∙ unfold splitOf in refl
 
 -- ---- what is known of the parts of a finite number
 

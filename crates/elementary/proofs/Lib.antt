@@ -1,5 +1,6 @@
 -- The laws that the functions' proofs share, and laws on the fixed steps: the root and the floor are what they should be, and how large the steps' results are.
 pub mod Floats
+pub mod Classes
 pub mod Bits
 pub mod Root
 pub mod Powers

@@ -1,8 +1,9 @@
--- The definitions of the crate `elementary`: the notation, the constants, a float taken apart, the fixed steps (docs/REFERENCE.md, Fixed steps), tests on
+-- The definitions of the crate `elementary`: the notation, the constants, a float taken apart, IEEE 754's classes, the fixed steps (docs/REFERENCE.md, Fixed steps), tests on
 -- floats, their order, when two are one, and what a root is.
 pub mod Arithmetic
 pub mod Constants
 pub mod Split
+pub mod Classes
 pub mod Root
 pub mod Steps
 pub mod Tests

@@ -12,9 +12,16 @@ ghost use Rattle.elementary.specs.Arithmetic.{whole};
 ghost use Rattle.elementary.specs.Steps.{SQRT, LN, EXP, POW, SIN, lnSum, sqrtSteps, lnSteps, expSteps, powSteps, expSeries, wholeOf};
 ghost use Rattle.elementary.specs.Tests.{between, maxOf};
 
+mod class;
 mod split;
 mod whole_root;
 
+pub use class::FloatClass;
+pub use class::IMPLICIT_BIT;
+pub use class::classify;
+pub use class::exponent_field;
+pub use class::sign_bit;
+pub use class::significand_field;
 pub use split::Parts;
 use split::Positive;
 pub use split::Whole;
@@ -54,10 +61,10 @@ pub fn to_bits(x: f64) -> u64
 pub fn from_bits(bits: u64) -> f64
     ensures { λ r. ⌜ r ≡ ofBits binary64 bits ⌝ }
 {
-    if 0x7ff0_0000_0000_0000 < bits % 0x8000_0000_0000_0000 {
-        return nan();
+    match classify(bits) {
+        FloatClass::NaN => nan(),
+        _ => f64::from_bits(bits),
     }
-    f64::from_bits(bits)
 }
 
 // ---- tests and choices that the formulas share

@@ -1,9 +1,16 @@
-// A float taken apart: its class, sign, significand and digits, and what `sqrt`, `ln` and `exp` need of them.
+// A float taken apart: its sign, significand and digits, and what `sqrt`, `ln` and `exp` need of them.
 ghost use mathlib.Core.Path.{_≡_};
 ghost use Prim.Native.Nat.{_-_, _≤_, _^_};
 ghost use Rattle.elementary.specs.Split.{splitOf, positiveOf, floorOf, Taken, TakenIn, Within, floorSize};
+use crate::class::FloatClass;
+use crate::class::IMPLICIT_BIT;
+use crate::class::classify;
+use crate::class::exponent_field;
+use crate::class::sign_bit;
+use crate::class::significand_field;
 use crate::infinity;
 use crate::nan;
+use crate::to_bits;
 
 // A float taken apart. A finite number other than zero is significand × 2^(digits - 1127), and its
 // significand has 53 binary digits, subnormal numbers included.
@@ -36,37 +43,31 @@ pub struct Whole {
     pub size: u64,
 }
 
-// Where a float is taken apart: of any other only `guess` reads the digits, a normal number's, and its
-// answer is tested. Leading zeros bring a subnormal's significand to 53 digits.
+// Where a float is taken apart, by its class. A normal number has the implicit bit above its field; a subnormal one has none, and
+// leading zeros bring its field to 53 digits.
 fn split(x: f64) -> Parts
     ensures { λ r. ⌜ r ≡ splitOf x ⌝ }
 {
-    if x != x {
-        return Parts::Nan;
-    }
-    let bits = f64::to_bits(x);
-    let negative = 0x8000_0000_0000_0000 <= bits;
-    let magnitude = bits % 0x8000_0000_0000_0000;
-    let field = magnitude / 0x10_0000_0000_0000;
-    let fraction = magnitude % 0x10_0000_0000_0000;
-    if field == 2047 {
-        return Parts::Infinite { negative };
-    }
-    if field == 0 {
-        if fraction == 0 {
-            return Parts::Zero { negative };
+    let bits = to_bits(x);
+    let negative = sign_bit(bits);
+    let field = significand_field(bits);
+    match classify(bits) {
+        FloatClass::Zero => Parts::Zero { negative },
+        FloatClass::Subnormal => {
+            let shift = u64::leading_zeros(field) - 11;
+            Parts::Finite {
+                negative,
+                significand: field << shift,
+                digits: 53 - shift as u64,
+            }
         }
-        let shift = u64::leading_zeros(fraction) - 11;
-        return Parts::Finite {
+        FloatClass::Normal => Parts::Finite {
             negative,
-            significand: fraction << shift,
-            digits: 53 - shift as u64,
-        };
-    }
-    Parts::Finite {
-        negative,
-        significand: 0x10_0000_0000_0000 + fraction,
-        digits: field + 52,
+            significand: IMPLICIT_BIT + field,
+            digits: exponent_field(bits) + 52,
+        },
+        FloatClass::Infinity => Parts::Infinite { negative },
+        FloatClass::NaN => Parts::Nan,
     }
 }
 

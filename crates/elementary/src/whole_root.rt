@@ -3,6 +3,12 @@
 ghost use mathlib.Core.Path.{_≡_};
 ghost use Prim.Native.Nat.{_+_, _-_, _*_, _<_, _^_};
 ghost use Rattle.elementary.specs.Root.{nearestRoot};
+use crate::class::FloatClass;
+use crate::class::IMPLICIT_BIT;
+use crate::class::classify;
+use crate::class::significand_field;
+use crate::from_bits;
+use crate::to_bits;
 
 // Some number a little below the root of w × 2^52, for a w of 53 or 54 digits. x is w as a float from
 // 1 to 4, y a first guess at 1/√x from the bits of x (the fast inverse square root), and each step
@@ -17,8 +23,8 @@ fn guess(w: u64) -> u64
     } else {
         w / 2 + 0x3ff0_0000_0000_0000
     };
-    let x = crate::from_bits(bits);
-    let y = crate::from_bits(0x5fe6_eb50_c7b5_37a9 - bits / 2);
+    let x = from_bits(bits);
+    let y = from_bits(0x5fe6_eb50_c7b5_37a9 - bits / 2);
     let root = x * y;
     let half = 0.5 * y;
     let step = 1.5 - root * half;
@@ -31,7 +37,11 @@ fn guess(w: u64) -> u64
     let root = root * step;
     let half = half * step;
     let root = root + (x - root * root) * half;
-    0xf_ffff_ffff_ffff + crate::to_bits(root) % 0x10_0000_0000_0000
+    let found = to_bits(root);
+    match classify(found) {
+        FloatClass::Normal => IMPLICIT_BIT - 1 + significand_field(found),
+        _ => IMPLICIT_BIT - 1,
+    }
 }
 
 // What w × 2^52 has above root × root, or 2^64 - 1 where that is below 0 or far too much. With root =
