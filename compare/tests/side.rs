@@ -30,6 +30,7 @@ fn all_formulas() {
     agrees(&formulas::check_dimension(COUNT, random), &[0, 1]);
     agrees(&formulas::takes_cone_formula(COUNT, random), &[0]);
     agrees(&formulas::shape_constants(), &[0]);
+    agrees(&formulas::classify(COUNT, random), &[0]);
 }
 
 #[test]

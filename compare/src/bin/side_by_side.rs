@@ -36,6 +36,7 @@ fn main() -> ExitCode {
     rows.extend(curves::curves(count, random));
     rows.extend(sheets::sheets(count, 0x5eed_0008));
     rows.extend(cards::cards(count, 0x5eed_0009));
+    rows.push(formulas::classify(count, &mut Random::new(0x5eed_000a)));
     println!("Port against the original with the fixed steps:\n");
     print_agreement(&rows);
     println!("\nPort against the untouched original, measured only:\n");

@@ -1,6 +1,6 @@
 -- Of any 64 bits exactly one of IEEE 754's five classes holds, and what the class says of the float that they stand for is so, whatever the sign and a NaN's payload are.
 use mathlib.Core.Path.{_≡_, refl, sym, ap, _∙_, subst}
-use mathlib.Core.Bool.{Bool, cond, not}
+use mathlib.Core.Bool.{Bool, cond}
 use mathlib.Core.List.{List, [], _∷_, map}
 use Prim.Native.Nat.{ℕ, zero, suc, _+_, _-_, _*_, _^_, _≤_, _<_}
 use native.Mathlib.Nat.{mul-one, zero-mul, mul-assoc, mul-comm, mul-pos, mod-lt, le-trans, lt-of-lt-of-le, le-add-right, le-mul-of-pos-right, mul-le-mul-right, mul-lt-mul-of-pos-right, le-of-mul-le-mul-right, lt-of-mul-lt-mul-right, lt-irrefl}
@@ -9,8 +9,8 @@ use native.Mathlib.Decide.{decLt, ℕ-discrete}
 use lib.Dec.{T, eqb, ltb}
 use lib.IntN.{ℤ, pos}
 use lib.Pow.{pow-pos}
-use lib.Ieee.{Float, nan, inf, fin, binary64, up, down, odd, ofFields, ofBits, toBits, fits, isNan, nanBits}
-use lib.Ieee.Bits.{ofBits-toBits, nanBits-is}
+use lib.Ieee.{Float, nan, inf, fin, binary64, up, down, odd, ofFields, ofBits, toBits, fits}
+use lib.Ieee.Bits.{ofBits-toBits}
 use lib.Ieee.Fits.{down-pos}
 use lib.Ieee.Exact.{HasValue, odd-sign}
 use borrow.Author.Tests.{ne-eqb, lt-ltb, le-ltb}
@@ -134,16 +134,6 @@ of-value b = let o = one-class b in subst (λ (c : FloatClass). InClass c b) (sy
 -- so a float's bits are in the float's class
 pub class-of : (x : Float) → T (fits binary64 x) → InClass (valueClass x) (toBits binary64 x)
 class-of x h = subst (λ (y : Float). InClass (valueClass y) (toBits binary64 x)) (ofBits-toBits binary64 x h) (of-value (toBits binary64 x))
-
--- only a NaN's class has a NaN's bits
-number : (x : Float) → (x ≡ nan → ⊥) → T (not (isNan x))
-unfolding isNan
-number nan h = absurd (h refl)
-number (inf s) h = tt
-number (fin s m e) h = tt
-
-pub no-nan : (c : FloatClass) (b : ℕ) → InClass c b → (c ≡ NaN → ⊥) → T (not (nanBits binary64 b))
-no-nan c b i h = rw (nanBits-is binary64 b) (number (ofBits binary64 b) (λ (e : ofBits binary64 b ≡ nan). h (sym (by-value c b i) ∙ ap valueClass e)))
 
 -- ---- the table at its edges
 

@@ -3,7 +3,7 @@
 ghost use mathlib.Core.Path.{_≡_};
 ghost use Rattle.elementary.specs.Classes.{signBit, exponentField, significandField, InClass};
 
-// What a normal number's significand has above its field.
+// 2^52: the bit that a normal number's significand has above its field.
 pub const IMPLICIT_BIT: u64 = 0x10_0000_0000_0000;
 
 pub enum FloatClass {
@@ -24,13 +24,13 @@ pub fn sign_bit(bits: u64) -> bool
 pub fn exponent_field(bits: u64) -> u64
     ensures { λ r. ⌜ r ≡ exponentField bits ⌝ }
 {
-    bits % 0x8000_0000_0000_0000 / 0x10_0000_0000_0000
+    bits % 0x8000_0000_0000_0000 / IMPLICIT_BIT
 }
 
 pub fn significand_field(bits: u64) -> u64
     ensures { λ r. ⌜ r ≡ significandField bits ⌝ }
 {
-    bits % 0x10_0000_0000_0000
+    bits % IMPLICIT_BIT
 }
 
 pub fn classify(bits: u64) -> FloatClass

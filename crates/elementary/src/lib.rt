@@ -57,14 +57,19 @@ pub fn to_bits(x: f64) -> u64
     f64::to_bits(x)
 }
 
-// The float that 64 bits stand for, any NaN pattern among them.
+// The float that 64 bits stand for. The NaN patterns, which lie above infinity's with either sign, are all the one NaN.
 pub fn from_bits(bits: u64) -> f64
     ensures { λ r. ⌜ r ≡ ofBits binary64 bits ⌝ }
 {
-    match classify(bits) {
-        FloatClass::NaN => nan(),
-        _ => f64::from_bits(bits),
+    if 0x7ff0_0000_0000_0000 < bits {
+        if bits < 0x8000_0000_0000_0000 {
+            return nan();
+        }
     }
+    if 0xfff0_0000_0000_0000 < bits {
+        return nan();
+    }
+    f64::from_bits(bits)
 }
 
 // ---- tests and choices that the formulas share

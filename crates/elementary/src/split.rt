@@ -10,7 +10,6 @@ use crate::class::sign_bit;
 use crate::class::significand_field;
 use crate::infinity;
 use crate::nan;
-use crate::to_bits;
 
 // A float taken apart. A finite number other than zero is significand × 2^(digits - 1127), and its
 // significand has 53 binary digits, subnormal numbers included.
@@ -43,12 +42,15 @@ pub struct Whole {
     pub size: u64,
 }
 
-// Where a float is taken apart, by its class. A normal number has the implicit bit above its field; a subnormal one has none, and
-// leading zeros bring its field to 53 digits.
+// Where a float is taken apart, by its class; a NaN, whose bits the language doesn't tell, is one before they are asked for. A
+// normal number has the implicit bit above its field; a subnormal one has none, and leading zeros bring its field to 53 digits.
 fn split(x: f64) -> Parts
     ensures { λ r. ⌜ r ≡ splitOf x ⌝ }
 {
-    let bits = to_bits(x);
+    if x != x {
+        return Parts::Nan;
+    }
+    let bits = f64::to_bits(x);
     let negative = sign_bit(bits);
     let field = significand_field(bits);
     match classify(bits) {

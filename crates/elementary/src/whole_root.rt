@@ -7,24 +7,22 @@ use crate::class::FloatClass;
 use crate::class::IMPLICIT_BIT;
 use crate::class::classify;
 use crate::class::significand_field;
-use crate::from_bits;
-use crate::to_bits;
 
 // Some number a little below the root of w × 2^52, for a w of 53 or 54 digits. x is w as a float from
 // 1 to 4, y a first guess at 1/√x from the bits of x (the fast inverse square root), and each step
-// brings `root` and `half` nearer to √x and 1/(2√x). Only the answer's size is proved: its user tests
-// it.
+// brings `root` and `half` nearer to √x and 1/(2√x). The answer is the significand of the last `root`
+// less one, or 0 if that isn't a normal number. Only its size is proved: its user tests it.
 fn guess(w: u64) -> u64
     requires { ⌜ w < 2 ^ 54 ⌝ }
-    ensures { λ r. ⌜ (0 < r) × (r < 2 ^ 53) ⌝ }
+    ensures { λ r. ⌜ r < 2 ^ 53 ⌝ }
 {
     let bits = if w < 0x20_0000_0000_0000 {
         w + 0x3fe0_0000_0000_0000
     } else {
         w / 2 + 0x3ff0_0000_0000_0000
     };
-    let x = from_bits(bits);
-    let y = from_bits(0x5fe6_eb50_c7b5_37a9 - bits / 2);
+    let x = f64::from_bits(bits);
+    let y = f64::from_bits(0x5fe6_eb50_c7b5_37a9 - bits / 2);
     let root = x * y;
     let half = 0.5 * y;
     let step = 1.5 - root * half;
@@ -37,10 +35,13 @@ fn guess(w: u64) -> u64
     let root = root * step;
     let half = half * step;
     let root = root + (x - root * root) * half;
-    let found = to_bits(root);
+    if root != root {
+        return 0;
+    }
+    let found = f64::to_bits(root);
     match classify(found) {
         FloatClass::Normal => IMPLICIT_BIT - 1 + significand_field(found),
-        _ => IMPLICIT_BIT - 1,
+        _ => 0,
     }
 }
 
@@ -84,6 +85,9 @@ pub(crate) fn nearest_root(w: u64) -> u64
     ensures { λ r. ⌜ r ≡ nearestRoot 53 (w * 2 ^ 52) ⌝ }
 {
     let root = guess(w);
+    if root == 0 {
+        return root_by_digits(w);
+    }
     let left = left_over(w, root);
     if 5 * root + 6 < left {
         return root_by_digits(w);
