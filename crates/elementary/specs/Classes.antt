@@ -6,7 +6,7 @@
 --   d)     0              not 0    Subnormal   (-1)^S × 2 ^ -1022 × (0 + T × 2 ^ -52)          the implicit bit is 0
 --   c)     1 to 2046      any      Normal      (-1)^S × 2 ^ (E - 1023) × (1 + T × 2 ^ -52)     the implicit bit is 1
 --   b)     2047           0        Infinity    (-1)^S × (+infinity)
---   a)     2047           not 0    NaN         NaN, whatever S is; T is quiet or signalling, with a payload
+--   a)     2047           not 0    NaN         NaN, whatever S is; T tells quiet from signalling and holds a payload
 --
 -- `InClass` has the fields of each row and `Stands` its value. Exactly one row holds of any bits (`one-class`), the bits then stand for that value (`stands`), and the
 -- class says how large it is (`by-value`): proofs/Classes.antt.

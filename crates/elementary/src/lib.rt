@@ -1,7 +1,7 @@
 // The fixed steps (docs/REFERENCE.md, Fixed steps) for the functions that the drag formulas need and no file of the
 // original holds: `sqrt`, `ln`, `exp`, `powf` and `sin` on every `f64`, NaN and infinities among
 // them. Each is proved equal to its definition in specs/Steps.antt. Beside them stand the tests and
-// the choice on floats that every formula may need (specs/Tests.antt).
+// the choice on floats that every formula may need (specs/Tests.antt), and a float's class (specs/Classes.antt).
 ghost use mathlib.Core.Path.{_≡_};
 ghost use mathlib.Core.Bool.{false};
 ghost use Prim.Native.Nat.{_≤_, _^_};

@@ -42,8 +42,8 @@ pub struct Whole {
     pub size: u64,
 }
 
-// Where a float is taken apart, by its class; a NaN, whose bits the language doesn't tell, is one before they are asked for. A
-// normal number has the implicit bit above its field; a subnormal one has none, and leading zeros bring its field to 53 digits.
+// Where a float is taken apart, by its class; a NaN, whose bits the language leaves open, before they are asked for. A normal
+// number has the implicit bit above its field; a subnormal one has none, and leading zeros bring its field to 53 digits.
 fn split(x: f64) -> Parts
     ensures { λ r. ⌜ r ≡ splitOf x ⌝ }
 {
