@@ -302,8 +302,9 @@ pub fn print(bytes: &[u8], out: &mut [u8]) -> usize {
     unsafe { raw::cobalnis_print(bytes.as_ptr(), bytes.len(), out.as_mut_ptr(), out.len()) }
 }
 
-/// Gives every NaN among the cells the bits 7ff8000000000000 (docs/REFERENCE.md, Numbers). Whole
-/// numbers are compared, since a compiler may take any NaN for any other.
+/// Gives every NaN among the cells the bits 7ff8000000000000 (docs/REFERENCE.md, Numbers). Their
+/// patterns, above infinity's with either sign, are compared as whole numbers, since a compiler may
+/// take any NaN for any other.
 pub fn settle(cells: &mut [f64]) {
     const NAN: u64 = 0x7ff8_0000_0000_0000;
     // SAFETY: an `f64` and a `u64` have the same size and alignment, any bits are one of either,
@@ -311,7 +312,7 @@ pub fn settle(cells: &mut [f64]) {
     let words =
         unsafe { std::slice::from_raw_parts_mut(cells.as_mut_ptr().cast::<u64>(), cells.len()) };
     for word in words {
-        if *word & !(1 << 63) > 0x7ff0_0000_0000_0000 {
+        if let 0x7ff0_0000_0000_0001..=0x7fff_ffff_ffff_ffff | 0xfff0_0000_0000_0001.. = *word {
             *word = NAN;
         }
     }
