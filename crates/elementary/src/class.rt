@@ -1,5 +1,5 @@
 // The fields of a float's 64 bits, and which of IEEE 754's five classes they make it. The fields are taken out here and nowhere
-// else, and who wants one asks for the class first. specs/Classes.antt has the standard's table.
+// else, and whoever takes a number apart goes by the class. specs/Classes.antt has the standard's table.
 ghost use mathlib.Core.Path.{_≡_};
 ghost use Rattle.elementary.specs.Classes.{signBit, exponentField, significandField, InClass};
 
