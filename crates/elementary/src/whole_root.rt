@@ -78,8 +78,8 @@ fn left_over(w: u64, root: u64) -> u64
 }
 
 // The whole number nearest to the root of w × 2^52. What is left over the guess's square tells
-// whether it is the guess or one of the two numbers after it. If it is none of them, which no w of 53
-// or 54 digits is known to bring about, the root is found digit by digit.
+// whether it is the guess or one of the two numbers after it. If it is none of them, or there is no
+// guess, which no w of 53 or 54 digits is known to bring about, the root is found digit by digit.
 pub(crate) fn nearest_root(w: u64) -> u64
     requires { ⌜ w < 2 ^ 54 ⌝ }
     ensures { λ r. ⌜ r ≡ nearestRoot 53 (w * 2 ^ 52) ⌝ }
