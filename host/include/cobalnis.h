@@ -8,9 +8,10 @@
  * An answer is a status: 0 is accepted, else the refusal's number plus 256
  * times the code of refusal 1 (cobalnis_number, cobalnis_code);
  * COBALNIS_NO_SUCH is for a number that names no formula, shape, nose or
- * quantity, and then nothing is written. No status are the class of
- * cobalnis_classify and the length of cobalnis_print. Floats are handed out by
- * their bits, 7ff8000000000000 for every NaN.
+ * quantity, and then nothing is written. Three functions answer something else
+ * and say what: cobalnis_takes_cone_formula, cobalnis_classify and
+ * cobalnis_print. Floats are handed out by their bits, 7ff8000000000000 for
+ * every NaN.
  *
  * No two of the memory areas passed to one call may overlap, and no pointer
  * may be null or unaligned (an empty slice has any aligned pointer), but for
