@@ -9,6 +9,7 @@
 A file's name may be - for standard input.
 
 The text has one statement a line; # starts a comment, blank lines are skipped.
+A text without any statement makes a card file without any bytes.
 
   diameter 0.054            reference diameter in metres (must be given)
   roughness 2e-5            relative roughness, 0 to 1 (left out: 0)
@@ -40,6 +41,9 @@ COLUMNS = 32
 ROWS = PLACES + 3  # a row for each place, friction, base, total
 NUMBER = re.compile(r"[+-]?([0-9]+\.?[0-9]*|\.[0-9]+)([eE][+-]?[0-9]+)?|nan|-?inf", re.ASCII)
 
+# What a sheet without columns and parts comes from.
+NOTHING_ASKED = "no card was read, or one without columns and parts"
+
 # What each refusal number means to somebody who wrote the cards; a pair: settings card, part card.
 REFUSALS = {
     1: ("body fineness, a Mach or a Reynolds number is not one that the drag formulas allow: they must be "
@@ -48,7 +52,7 @@ REFUSALS = {
         "parabolic parameter 0 to 1; haack parameter not negative; length over growth in diameter finite"),
     2: "the ogive's radius ratio is not a finite number of at least 1",
     3: "the haack parameter is above 1/3",
-    4: "the bytes end inside this card, or there are none at all",
+    4: "the bytes end inside this card",
     5: "a bit that must be 0 is set, or the shape number is above 5",
     6: ("diameter or fineness is missing",
         "ogive, power, parabolic and haack need their parameter, and other shapes may not have one"),
@@ -138,7 +142,7 @@ def card(fields):
 
 
 def to_cards(name, lines):
-    """The settings card and the part cards of a text."""
+    """The settings card and the part cards of a text; no bytes for a text without statements."""
     fields, columns, parts = {}, [], []
     for number, line in enumerate(lines, 1):
         words = line.split("#", 1)[0].split()
@@ -148,6 +152,8 @@ def to_cards(name, lines):
             statement(words[0], words[1:], fields, columns, parts)
         except ValueError as error:
             raise Problem(name, number, str(error)) from None
+    if not (fields or columns or parts):
+        return b""
     for bit in (0, 2):
         if bit not in fields:
             raise Problem(name, len(lines), f"'{SETTINGS[bit]}' is not given in any line up to this last one")
@@ -224,6 +230,11 @@ def rows(name, lines):
     if row_name(done, "") != "nothing":
         raise Problem(name, len(done) + 1, f"the sheet ends where {row_name(done, '')} was expected")
     return done
+
+
+def nothing_asked(found):
+    """Whether the rows are those of a sheet without columns and parts."""
+    return [name for name, values in found if not values] == ["mach", "friction", "base", "total"]
 
 
 def decimal(x):
@@ -322,11 +333,13 @@ def run(command, name):
     if command == "write":
         return to_cards(name, lines)
     refused = refusal(name, lines)
+    found = [] if refused else rows(name, lines)
+    word = NOTHING_ASKED if nothing_asked(found) else refused
     if command == "read":
-        return (refused + "\n" if refused else table(rows(name, lines))).encode()
-    if refused:
-        raise Problem(name, 1, "there is nothing to plot: " + refused)
-    return plot(name, rows(name, lines)).encode()
+        return (table(found) + (word + "\n" if word else "")).encode()
+    if word:
+        raise Problem(name, 1, "there is nothing to plot: " + word)
+    return plot(name, found).encode()
 
 
 def main(arguments):

@@ -21,6 +21,7 @@ SHEET = os.environ.get("SHEET")
 # The example of docs/REFERENCE.md: its text, its bytes, its five lines.
 PAPER_TEXT = "diameter 1\nfineness 1\ncolumn 0 0\npart aft 1\n"
 PAPER_CARD = bytes.fromhex("0d" + "000000000000f03f" * 2 + "01" + "00" * 16 + "08" + "000000000000f03f")
+BLANK_SHEET = "mach\nfriction\nbase\ntotal\n"
 PAPER_SHEET = """mach 0000000000000000
 part 0 3feb333333333333
 friction 0000000000000000
@@ -67,6 +68,10 @@ class Write(unittest.TestCase):
             self.assertEqual(self.written(head + line * 2), card + part * 2)
         self.assertEqual(self.written(head + "part\n"), card + b"\x00")
 
+    def test_nothing(self):
+        for text in ("", "\n", "\r\n \t\r\n", "\ufeff", "# a comment\n\n  # another"):
+            self.assertEqual(self.written(text), b"")
+
     def test_any_number(self):
         words = ["nan", "inf", "-inf", "-0", "1e-320", "-1.5E+300", ".5", "5.", "+3"]
         text = "diameter 1\nfineness 1\n" + "".join(f"part length {word}\n" for word in words)
@@ -96,7 +101,8 @@ class Write(unittest.TestCase):
             self.refused(f"{key} 1\n\n{key} 1\n", 3, f"'{key}' is given twice")
         self.refused("diameter 1\nroughness 0\n", 2, "'fineness' is not given")
         self.refused("fineness 1", 1, "'diameter' is not given")
-        self.refused("", 1, "'diameter' is not given")
+        self.refused("\ncolumn 1 1", 2, "'diameter' is not given")
+        self.refused("part\n", 1, "'diameter' is not given")
         self.refused(b"diameter 1\nfineness \xff\n", 2, "not text")
 
 
@@ -112,8 +118,13 @@ class Read(unittest.TestCase):
     def test_odd_numbers(self):
         status, output, _ = call("read", PAPER_SHEET.replace("3feb333333333333", "7ff8000000000000"))
         self.assertEqual((status, output.decode().splitlines()[1].split()), (0, ["part", "0", "nan"]))
-        status, output, _ = call("read", "mach\nfriction\nbase\ntotal\n")
-        self.assertEqual((status, output), (0, b"mach\nfriction\nbase\ntotal\n"))
+
+    def test_nothing_asked(self):
+        status, output, errors = call("read", BLANK_SHEET)
+        self.assertEqual((status, errors), (0, ""))
+        self.assertEqual(output.decode(), BLANK_SHEET + "no card was read, or one without columns and parts\n")
+        parts = "mach\npart 0\nfriction\nbase\ntotal\n"
+        self.assertEqual(call("read", parts), (0, parts.encode(), ""))
 
     def test_refusals(self):
         said = set()
@@ -165,7 +176,7 @@ class Plot(unittest.TestCase):
 
     def test_nothing_to_plot(self):
         huge = PAPER_SHEET.replace("3fb", "7fe")
-        for text in ("refused 7 card 0\n", "mach\nfriction\nbase\ntotal\n", huge, PAPER_SHEET.replace("mach 000", "mach 7ff")):
+        for text in ("refused 7 card 0\n", BLANK_SHEET, huge, PAPER_SHEET.replace("mach 000", "mach 7ff")):
             status, output, errors = call("plot", text)
             self.assertEqual((status, output, errors.count("\n")), (1, b"", 1))
 
@@ -181,7 +192,8 @@ class Example(unittest.TestCase):
 
     @unittest.skipUnless(SHEET, "SHEET doesn't name the compiled program")
     def test_program(self):
-        for card, sheet in [(self.kept(".card"), self.kept(".sheet")), (PAPER_CARD, PAPER_SHEET.encode())]:
+        blank = call("write", "")[1], BLANK_SHEET.encode()
+        for card, sheet in [(self.kept(".card"), self.kept(".sheet")), (PAPER_CARD, PAPER_SHEET.encode()), blank]:
             done = subprocess.run([SHEET], input=card, capture_output=True)
             self.assertEqual(done.stdout, sheet)
 

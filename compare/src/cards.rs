@@ -12,7 +12,7 @@ use crate::model::{
 };
 use crate::original_fixed::NoseShape;
 
-/// "bytes end inside a card, or none at all".
+/// "bytes end inside a card, or none at all"; where no card is asked for, no bytes are [`NO_CARD`].
 const ENDED: u8 = 4;
 /// "reserved bit, shape byte above 5".
 const RESERVED: u8 = 5;
@@ -156,12 +156,28 @@ pub fn read_part(bytes: &[u8], at: usize) -> Result<(Part, usize), u8> {
 
 // ---- the program
 
+/// What no bytes at all mean (document 02, request 10).
+const NO_CARD: Settings = Settings {
+    reference_diameter: 1.0,
+    roughness: 0.0,
+    body_fineness: 1.0,
+    count: 0,
+    columns: [Column {
+        mach: 0.0,
+        reynolds: 0.0,
+    }; COLUMNS],
+};
+
 /// A sheet with its cells out of a stream: one settings card, then part cards until the bytes end,
 /// each inserted last before the next is read.
 pub fn stack(stream: &[u8]) -> Result<(Sheet, Vec<f64>), Refused> {
     let mut bytes = Bytes(stream);
     let mut card = 0;
-    let settings = settings_card(&mut bytes).map_err(|number| Refused { number, card })?;
+    let settings = if stream.is_empty() {
+        NO_CARD
+    } else {
+        settings_card(&mut bytes).map_err(|number| Refused { number, card })?
+    };
     let mut cells = vec![0.0; ROWS * settings.count];
     let (mut answer, mut sheet) = open(&settings, &mut cells);
     while answer.refusal == 0 && !bytes.0.is_empty() {

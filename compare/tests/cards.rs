@@ -1,7 +1,7 @@
 //! The model of the cards (docs/REFERENCE.md, Cards): the example of docs/REFERENCE.md, the
 //! refusals of its table with their card, and the order in which bytes are looked at.
 
-use compare::cards::printed;
+use compare::cards::{printed, read_part, read_settings, stack};
 
 /// Bytes out of hexadecimal digits; spaces are passed over, `one` is 1.0, `zero` is +0.
 fn bytes(text: &str) -> Vec<u8> {
@@ -48,15 +48,43 @@ fn the_papers_cards() {
     );
 }
 
-/// 4: bytes end inside a card, or none at all.
+/// No bytes at all are a sheet with nothing in it, as D = 1 and B = 1 alone are; a card asked for
+/// where no byte is left is 4.
+#[test]
+fn no_bytes() {
+    assert_eq!(text(""), "mach\nfriction\nbase\ntotal\n");
+    assert_eq!(text(""), text("05 one one"));
+    let (sheet, cells) = stack(&[]).expect("accepted");
+    let settings = &sheet.settings;
+    assert_eq!(settings.reference_diameter, 1.0);
+    assert_eq!(settings.roughness.to_bits(), 0);
+    assert_eq!(settings.body_fineness, 1.0);
+    assert_eq!((settings.count, sheet.design.count, cells.len()), (0, 0, 0));
+    assert_eq!(read_settings(&[], 0).err(), Some(4));
+    assert_eq!(read_part(&[], 0).err(), Some(4));
+}
+
+/// One byte is a card: refused by its bits, or cut short.
+#[test]
+fn one_byte() {
+    for map in 0..=255u8 {
+        let number = match map {
+            0x10.. => 5,
+            0x05 | 0x07 | 0x0d | 0x0f => 4,
+            _ => 6,
+        };
+        assert_eq!(printed(&[map]), (refused(number, 0), number), "{map:02x}");
+    }
+}
+
+/// 4: bytes end inside a card.
 #[test]
 fn bytes_that_end() {
-    assert_eq!(text(""), refused(4, 0));
     assert_eq!(text("0d"), refused(4, 0));
     let whole = bytes(&format!("{OPEN} 3f 01 one one one one one 08 one"));
     let borders = [34, 76, 85];
     assert_eq!(whole.len(), borders[2]);
-    for end in 0..=whole.len() {
+    for end in 1..=whole.len() {
         let (text, number) = printed(&whole[..end]);
         if borders.contains(&end) {
             assert_eq!(number, 0, "{end}");

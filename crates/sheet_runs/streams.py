@@ -76,14 +76,17 @@ add(ONE + part(d=1.0) + part(1, 0.9, 1.0, 0.5), (2, 1))
 # 3: Haack above 1/3
 add(ONE + part(5, 0.4, 1.0, 1.0), refused(3, 1))
 add(BARE + part(d=1.0) + part(5, INF, 1.0, 2.0), refused(3, 2))
-# 4: no bytes at all, and bytes that end inside a card
-add(b"", refused(4, 0))
+# no bytes at all: the names alone
+add(b"", (0, 0))
+# 4: bytes that end inside a card, after one byte too
+add(b"\x05", refused(4, 0))
 add(b"\x0d", refused(4, 0))
 add(ONE[:-1], refused(4, 0))
 add(ONE + b"\x01", refused(4, 1))
 add(BARE + part(d=1.0) + part(1, 1.0, 1.0)[:-1], refused(4, 2))
 # 5: reserved bits, and shape bytes above 5, before anything that is missing
 add(b"\x10", refused(5, 0))
+add(b"\xff", refused(5, 0))
 add(b"\x80" + f64(1.0, 1.0), refused(5, 0))
 add(ONE + b"\x40", refused(5, 1))
 add(BARE + part(d=1.0) + b"\x81\x09", refused(5, 2))
@@ -131,11 +134,11 @@ add(BARE + SIXTEEN + b"\x08", refused(4, 17))
 add(BARE + SIXTEEN + b"\x40", refused(5, 17))
 add(BARE + SIXTEEN + b"\x02", refused(6, 17))
 add(BARE + SIXTEEN + part() + bytes(range(256)), refused(9, 17))
-# a stream cut at every byte of a stack of two parts: whole only at a card's end
+# a stream cut after every byte of a stack of two parts: whole only at a card's end
 cards = [settings(roughness=1e-5, columns=[(0.5, 1e6)]), STACK[0], STACK[1]]
 whole = b"".join(cards)
 ends = [len(b"".join(cards[: k + 1])) for k in range(len(cards))]
-for cut in range(len(whole) + 1):
+for cut in range(1, len(whole) + 1):
     passed = sum(1 for end in ends if end <= cut)
     add(whole[:cut], (passed - 1, 1) if cut in ends else refused(4, passed))
 

@@ -67,7 +67,7 @@ enum {
     COBALNIS_DOMAIN = 1,        /* a number that no formula takes; has a code and a value */
     COBALNIS_OGIVE_RATIO = 2,   /* an ogive's radius ratio below 1, infinite or NaN */
     COBALNIS_HAACK_ABOVE = 3,   /* a Haack parameter above 1/3 */
-    COBALNIS_ENDED = 4,         /* bytes end inside a card, or there are none */
+    COBALNIS_ENDED = 4,         /* bytes end inside a card, or before it */
     COBALNIS_RESERVED = 5,      /* a reserved bit, or no such shape */
     COBALNIS_FIELD = 6,         /* a card's field is missing or barred */
     COBALNIS_MANY_COLUMNS = 7,  /* more than COBALNIS_COLUMNS columns */
@@ -209,14 +209,17 @@ uint32_t cobalnis_set_column(uint64_t sheet[COBALNIS_SHEET_WORDS], size_t column
                              size_t cell_count, uint64_t *bits);
 
 /* Reads a card from the byte `at` on; next: where it ends. A settings card
- * fills the words of a sheet's settings. Refused: nothing is written. */
+ * fills the words of a sheet's settings. Where no byte is left there is no
+ * card: COBALNIS_ENDED. Refused: nothing is written. */
 uint32_t cobalnis_read_settings(const uint8_t *bytes, size_t n, size_t at,
                                 uint64_t sheet[COBALNIS_SHEET_WORDS], size_t *next);
 uint32_t cobalnis_read_part(const uint8_t *bytes, size_t n, size_t at,
                             uint64_t part[COBALNIS_PART_WORDS], size_t *next);
 
 /* What the program `sheet` prints for these bytes, and how many bytes that
- * is; 0 where out has fewer than COBALNIS_LONGEST_TEXT. */
+ * is; 0 where out has fewer than COBALNIS_LONGEST_TEXT. No bytes (n = 0, the
+ * pointer as always not null) print the names of a sheet with no columns and
+ * no parts. */
 size_t cobalnis_print(const uint8_t *bytes, size_t n, uint8_t *out, size_t m);
 
 /* ---- structs that lie as the words do */

@@ -59,7 +59,7 @@ impl fmt::Display for Refusal {
             },
             2 => "an ogive's radius ratio isn't a finite number of at least 1",
             3 => "a Haack parameter is above 1/3",
-            4 => "the bytes end inside a card, or there are none",
+            4 => "the bytes end inside a card, or before it",
             5 => "a reserved bit stands, or a shape isn't one of the six",
             6 => "a field of the card is missing or doesn't belong there",
             7 => return write!(f, "more than {COLUMNS} columns"),

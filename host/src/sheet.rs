@@ -245,7 +245,8 @@ impl<'cells> Sheet<'cells> {
     }
 }
 
-/// What the program `sheet` prints for a stream of cards.
+/// What the program `sheet` prints for a stream of cards; for no bytes the names of a sheet with no
+/// columns and no parts.
 pub fn print(stream: &[u8]) -> String {
     let mut text = vec![0; LONGEST_TEXT];
     let length = c::print(stream, &mut text);

@@ -355,6 +355,11 @@ static void cards(void)
     CHECK(memcmp(out, text, sizeof text - 1) == 0);
     CHECK(cobalnis_print(CARDS, 1, out, sizeof out) == strlen("refused 4 card 0\n"));
     CHECK(cobalnis_print(CARDS, sizeof CARDS, out, sizeof out - 1) == 0);
+
+    static const char names[] = "mach\nfriction\nbase\ntotal\n";
+    CHECK(cobalnis_print(CARDS, 0, out, sizeof out) == sizeof names - 1);
+    CHECK(memcmp(out, names, sizeof names - 1) == 0);
+    CHECK(cobalnis_sheet_read_settings(CARDS, 0, 0, &sheet, &next) == COBALNIS_ENDED);
 }
 
 int main(void)

@@ -184,8 +184,20 @@ fn printed() {
         "mach 0000000000000000\npart 0 3feb333333333333\nfriction 0000000000000000\n\
          base 3fbeb851eb851eb8\ntotal 3fef0a3d70a3d70a\n"
     );
-    assert_eq!(print(&[]), "refused 4 card 0\n");
     assert_eq!(print(&[0x0d]), "refused 4 card 0\n");
+}
+
+/// No bytes print the names alone, as D = 1 and B = 1 alone do; one byte is a card cut short or one
+/// that its bits refuse.
+#[test]
+fn nothing_to_print() {
+    let names = "mach\nfriction\nbase\ntotal\n";
+    assert_eq!(print(&[]), names);
+    let one = 1.0f64.to_le_bytes();
+    assert_eq!(print(&[&[0x05], &one[..], &one[..]].concat()), names);
+    for (byte, number) in [(0x00, 6), (0x01, 6), (0x05, 4), (0x0d, 4), (0xff, 5)] {
+        assert_eq!(print(&[byte]), format!("refused {number} card 0\n"));
+    }
 }
 
 /// The longest text there is: 16 parts and 32 columns.

@@ -1,6 +1,6 @@
 -- What the calls below a run say by their outcome, that an accepted one leaves a sheet that fits its cells, and a run's contract once it is known where it stops.
 use mathlib.Core.Path.{_≡_, refl, sym, ap, _∙_, subst}
-use mathlib.Core.List.{List, _∷_}
+use mathlib.Core.List.{List, [], _∷_}
 use Prim.Native.Nat.{ℕ, _+_, _≤_, _<_, min}
 use native.Mathlib.Omega.{arith}
 use lib.ListN.{length, take, drop, length-append, length-take, length-drop}
@@ -23,7 +23,7 @@ use Rattle.drag_sheet.proofs.Answers.{settings-facts, call-facts, bounds}
 use Rattle.cards.specs.declared.SettingsRead.{SettingsRead}
 use Rattle.cards.specs.Cards.{settingsAt}
 use Rattle.card_run.specs.declared.Run.{Run}
-use Rattle.card_run.specs.Run.{Ran, stoppedAt, streamOf, lastPlace, insertLast, sheetAfter, cellsAfter, allPartCards, Stopped}
+use Rattle.card_run.specs.Run.{Ran, stoppedAt, noCard, firstCard, streamOf, lastPlace, insertLast, sheetAfter, cellsAfter, allPartCards, Stopped}
 use Rattle.card_run.proofs.Stream.{sheetThen}
 
 -- ---- what a call's contract says, by its outcome: of the sheet given or left, of the cells xs or zs
@@ -105,9 +105,19 @@ stopped-at ran card o sheet ys r e i h k =
       fits = λ a. subst (λ (z : Sheet). Fits z (length ys)) (sym (ap (λ (x : Run). x .sheet) i)) (k (sym (ap (λ (x : Run). x .outcome) i) ∙ a));
     }
 
+-- ---- the settings card is asked of every stream that has a byte
+
+pub first-of-none : (s : List ℕ) → length s ≡ 0 → firstCard s ≡ noCard
+first-of-none [] e = refl
+first-of-none (b ∷ s) e = absurd (omega arith)
+
+pub first-of-some : (s : List ℕ) → 0 < length s → firstCard s ≡ settingsAt s 0
+first-of-some [] h = absurd (omega arith)
+first-of-some (b ∷ s) h = refl
+
 -- ---- a stream whose settings card reads as `card`
 
-module _ (s : List ℕ) (xs : List Float) (card : SettingsRead) (i : card ≡ settingsAt s 0) where
+module _ (s : List ℕ) (xs : List Float) (card : SettingsRead) (i : card ≡ firstCard s) where
   pub stream-unread : (e : AeroError) → card .outcome ≡ Failed e → streamOf s xs ≡ stoppedAt 0 (Failed e) (blank (card .settings)) xs
   unfolding streamOf
   stream-unread e o = rw (← i, o)

@@ -27,10 +27,10 @@ use Rattle.drag_sheet.proofs.ListsLaw.{lists-agree}
 use Rattle.cards.specs.declared.PartRead.{PartRead}
 use Rattle.cards.specs.declared.PartRead.the-variants.{Read, Refused as NoPart}
 use Rattle.cards.specs.declared.SettingsRead.{SettingsRead}
-use Rattle.cards.specs.Cards.{partAt, settingsAt}
-use Rattle.cards.proofs.Arrays.{settings-long}
+use Rattle.cards.specs.Cards.{partAt}
+use Rattle.cards.proofs.Arrays.{Long, settings-long}
 use Rattle.card_run.specs.declared.Run.{Run}
-use Rattle.card_run.specs.Run.{Ran, stopped, stoppedAt, onPart, onCheck, insertLast, partCards, streamOf, Stopped}
+use Rattle.card_run.specs.Run.{Ran, stopped, stoppedAt, onPart, onCheck, insertLast, partCards, firstCard, streamOf, Stopped}
 use Rattle.card_run.specs.Said.{withPart, partsSaid, said}
 use Rattle.card_run.proofs.Stream.{sheetThen, cellsThen}
 use Rattle.card_run.proofs.Prefix.{Held, one-more-held}
@@ -116,9 +116,13 @@ sequence (suc n) s at sheet xs h o = carded n s at sheet xs h (λ part next. seq
 
 -- ---- the whole stream
 
+first-long : (s : List ℕ) → Long (firstCard s)
+first-long [] = (refl, refl)
+first-long (b ∷ s) = settings-long (b ∷ s) 0
+
 module _ (s : List ℕ) (xs : List Float) where
   abbrev card : SettingsRead
-  card = settingsAt s 0
+  card = firstCard s
 
   abbrev opened : Ran
   opened = partCards (length s) s (card .next) (blank (card .settings)) (overwritten whole (contentsOf (blank (card .settings))) xs)
@@ -130,7 +134,7 @@ module _ (s : List ℕ) (xs : List Float) where
       let ps = partsSaid (length s) s (card .next) in
       let answer : Answer = record { outcome = Passed; sheet = sheet } in
       let z : Opened (card .settings) xs answer ys = record { answer = rw t; left = rw t } in
-      let long = settings-long s 0 in
+      let long = first-long s in
       let a = lists-agree (card .settings) xs answer ys (long .0) (long .1) z .accepted refl (sequence (length s) s (card .next) sheet ys (omega arith) o) in
       let d : modelDecisions (length xs) (inserts 0 ps) (openedModel (card .settings)) ≡ accepted ps = sym (all-told-apart _ _ (a .answers)) in
       subst (Matches (opened .run .sheet) (opened .cells)) (appended (length xs) ps (openedModel (card .settings)) d) (a .matches)

@@ -4,3 +4,5 @@ pub mod Answers
 pub mod Prefix
 pub mod Never
 pub mod Built
+pub mod NoCard
+pub mod Cut

@@ -2,7 +2,7 @@
 -- A card reads the same in those bytes as in the stream; the count of the design's parts bounds the cards.
 use mathlib.Core.Path.{_≡_, refl, sym, ap, _∙_}
 use mathlib.Core.Bool.{Bool, true, false}
-use mathlib.Core.List.{List}
+use mathlib.Core.List.{List, [], _∷_}
 use Prim.Native.Nat.{ℕ, zero, suc, _+_, _-_, _*_, _≤_, _<_, min}
 use native.Mathlib.Omega.{arith}
 use lib.ListN.{length, take, drop, length-take, length-append}
@@ -21,7 +21,7 @@ use Rattle.drag_sheet.specs.Calls.{after}
 use Rattle.cards.specs.declared.SettingsRead.{SettingsRead}
 use Rattle.cards.specs.Cards.{settingsAt, settings-bytes, part-bytes}
 use Rattle.cards.proofs.Extents.{part-extent, settings-extent}
-use Rattle.card_run.specs.Run.{Ran, insertLast, partCards, onCheck, stoppedAt, streamFrom, streamOf, stream-bytes}
+use Rattle.card_run.specs.Run.{Ran, insertLast, partCards, onCheck, stoppedAt, firstCard, streamFrom, streamOf, stream-bytes}
 use Rattle.card_run.proofs.Stream.{sheetThen, cellsThen, same-card, card-first, part-reach}
 use Rattle.card_run.proofs.Answers.{one-more, accepted-part}
 
@@ -36,6 +36,15 @@ one-more-held sheet part h =
     let a = one-more sheet part in
     let b = length-append new (drop (length new) (sheet .design .parts)) in
     (omega (arith, a), omega (arith, b))
+
+-- the settings card ends within its bytes and is the same in the first bytes of the stream, and no bytes are no bytes there
+first-reach : (s : List ℕ) → firstCard s .outcome ≡ Passed → firstCard s .next ≤ settings-bytes
+first-reach [] o = omega arith
+first-reach (b ∷ s) o = settings-extent .reach (b ∷ s) 0 (settingsAt (b ∷ s) 0 .next) (o, refl) .1
+
+first-same : (s : List ℕ) → firstCard s ≡ firstCard (take stream-bytes s)
+first-same [] = refl
+first-same (b ∷ s) = settings-extent .same (b ∷ s) stream-bytes 0 (omega arith)
 
 module _ (s : List ℕ) where
   first-long : length (take stream-bytes s) ≡ min stream-bytes (length s)
@@ -91,5 +100,4 @@ module _ (s : List ℕ) where
   pub first-bytes : (xs : List Float) → streamOf s xs ≡ streamOf (take stream-bytes s) xs
   unfolding streamOf
   first-bytes xs =
-      same-from (settingsAt s 0) xs (λ o. settings-extent .reach s 0 (settingsAt s 0 .next) (o, refl) .1)
-      ∙ ap (λ (card : SettingsRead). streamFrom (take stream-bytes s) card xs) (settings-extent .same s stream-bytes 0 (omega arith))
+      same-from (firstCard s) xs (first-reach s) ∙ ap (λ (card : SettingsRead). streamFrom (take stream-bytes s) card xs) (first-same s)

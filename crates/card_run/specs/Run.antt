@@ -1,18 +1,20 @@
 -- What a whole stream of bytes comes to (docs/REFERENCE.md, Program): "reads one settings card and then part cards .., each inserted last, and stops at the
--- first refusal". Each card is read whole before its call. What a call decides and leaves is `drag_sheet`'s own definition of it.
+-- first refusal". Each card is read whole before its call. A stream of no bytes has settings of its own. What a call decides and leaves is `drag_sheet`'s own
+-- definition of it.
 use mathlib.Core.Path.{_≡_}
 use mathlib.Core.Bool.{cond}
-use mathlib.Core.List.{List}
+use mathlib.Core.List.{List, [], _∷_}
 use Prim.Native.Nat.{ℕ, zero, suc, _+_, _*_, _≤_}
-use lib.ListN.{length}
+use lib.ListN.{length, replicate}
 use lib.Dec.{ltb}
 use lib.Ieee.{Float}
+use Rattle.elementary.specs.Constants.{0·0, 1·0}
 use Rattle.aero_error.specs.declared.AeroError.{AeroError}
 use Rattle.aero_error.specs.declared.Check.{Check}
 use Rattle.aero_error.specs.declared.Check.the-variants.{Passed, Failed}
 use Rattle.sheet_data.specs.declared.Part.{Part}
 use Rattle.sheet_data.specs.declared.Sheet.{Sheet}
-use Rattle.sheet_data.specs.Layout.{most-parts}
+use Rattle.sheet_data.specs.Layout.{most-parts, most-columns}
 use Rattle.sheet_data.specs.Contents.{contentsOf, blank, Fits}
 use Rattle.sheet_data.specs.Tests.{settingsTest}
 use Rattle.drag_sheet.specs.Writing.{whole, overwritten}
@@ -78,6 +80,26 @@ partCards (suc n) s at sheet xs = partCard s at sheet xs (partCards n s)
 abbrev pub allPartCards : List ℕ → ℕ → Sheet → List Float → Ran
 allPartCards s at sheet xs = partCards (length s) s at sheet xs
 
+-- what stands for the settings card where there are no bytes: D = 1, B = 1, roughness 0, no columns
+abbrev pub noCard : SettingsRead
+noCard = record {
+  outcome = Passed;
+  settings = record {
+    «reference_diameter» = 1·0;
+    roughness = 0·0;
+    «body_fineness» = 1·0;
+    count = 0;
+    machs = replicate most-columns 0·0;
+    reynolds = replicate most-columns 0·0;
+  };
+  next = 0;
+}
+
+-- the settings card of a stream
+abbrev pub firstCard : List ℕ → SettingsRead
+firstCard [] = noCard
+firstCard (b ∷ s) = settingsAt (b ∷ s) 0
+
 -- the settings card, card 0, as it was read, and then the part cards
 abbrev pub streamFrom : List ℕ → SettingsRead → List Float → Ran
 streamFrom s card xs =
@@ -88,7 +110,7 @@ streamFrom s card xs =
 
 unfoldable pub streamOf : List ℕ → List Float → Ran
 unfolding partCards
-streamOf s xs = streamFrom s (settingsAt s 0) xs
+streamOf s xs = streamFrom s (firstCard s) xs
 
 -- the bytes of a stream that can matter: the settings card, a part card for each place of a design, and the one that can't be accepted any more
 abbrev pub stream-bytes : ℕ

@@ -1,4 +1,4 @@
-// The run over a whole stream of card bytes (docs/REFERENCE.md, Cards): one settings card, then part
+// The run over a whole stream of card bytes (docs/REFERENCE.md, Program): one settings card, then part
 // cards, each inserted last, up to the first refusal. `cards` reads a card, and `drag_sheet` makes the
 // call.
 ghost use mathlib.Core.Path.{_≡_};
@@ -6,12 +6,15 @@ ghost use Prim.Native.Nat.{_≤_};
 ghost use lib.ListN.{length};
 ghost use Rattle.sheet_data.specs.Layout.{most-parts};
 ghost use Rattle.sheet_data.specs.Contents.{Fits};
-ghost use Rattle.card_run.specs.Run.{runStopped, Stopped, allPartCards, streamOf};
+ghost use Rattle.card_run.specs.Run.{runStopped, Stopped, allPartCards, firstCard, streamOf};
 use aero_error::Check;
 use cards::PART_BYTES;
 use cards::PartRead;
 use cards::SETTINGS_BYTES;
+use cards::SettingsRead;
+use sheet_data::Settings;
 use sheet_data::Sheet;
+use sheet_data::layout::COLUMNS;
 use sheet_data::layout::PARTS;
 
 // No byte of a stream past these can change the answer: the settings card, as many part cards as a
@@ -67,12 +70,34 @@ fn run_parts(s: &[u8], start: usize, opened: Sheet, cells: &mut [f64]) -> Run
     stopped(Check::Passed, sheet)
 }
 
+// The settings card of a stream. No bytes at all are a sheet with nothing in it, so that a reader
+// without a card is not taken for a broken one.
+fn first_card(s: &[u8]) -> SettingsRead
+    ensures { λ r. ⌜ r ≡ firstCard (now (s .entry)) ⌝ }
+{
+    if s.len() == 0 {
+        return SettingsRead {
+            outcome: Check::Passed,
+            settings: Settings {
+                reference_diameter: 1.0,
+                roughness: 0.0,
+                body_fineness: 1.0,
+                count: 0,
+                machs: [0.0; COLUMNS],
+                reynolds: [0.0; COLUMNS],
+            },
+            next: 0,
+        };
+    }
+    cards::read_settings(s, 0)
+}
+
 // A whole stream: one settings card, then part cards until the bytes end at a card's end, or the
 // first refusal.
 pub fn run_stream(s: &[u8], cells: &mut [f64]) -> Run
     ensures { λ r. ⌜ Stopped (streamOf (now (s .entry)) (now (cells .entry))) r (now (cells .exit)) ⌝ }
 {
-    let card = cards::read_settings(s, 0);
+    let card = first_card(s);
     let settings = card.settings;
     let next = card.next;
     let first = card.outcome;

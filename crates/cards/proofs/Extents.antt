@@ -1,5 +1,6 @@
 -- How far the readers of a card go, in one walk: what a reader accepts ends so many bytes on, and the bytes past the most that it can take don't matter to it.
--- A reader is followed by the next one, and the numbers of bytes add up.
+-- What it accepts it accepts without the bytes past that end too, and with fewer it is refused with 4. A reader is followed by the next one, and the numbers of
+-- bytes add up.
 use mathlib.Core.Path.{_≡_, refl, sym, ap, _∙_}
 use mathlib.Core.Bool.{Bool, true, false, cond, not}
 use mathlib.Core.List.{List}
@@ -9,7 +10,7 @@ use lib.ListN.{length, getD, take, length-take}
 use lib.Seq.{getD-take}
 use lib.Dec.{leb, ltb}
 use lib.Ieee.{Float}
-use borrow.Author.Tests.{leb-true, leb-false, le-leb, lt-leb, ltb-false}
+use borrow.Author.Tests.{leb-true, leb-false, le-leb, lt-leb, ltb-true, ltb-false}
 use Rattle.elementary.specs.Arithmetic.{bits}
 use Rattle.elementary.specs.Constants.{0·0}
 use Rattle.aero_error.specs.declared.AeroError.{AeroError}
@@ -58,69 +59,111 @@ partEnds (NoPart e) n = ⊥
 abbrev pub settingsEnds : SettingsRead → ℕ → Type 0
 settingsEnds r n = (r .outcome ≡ Passed) × (r .next ≡ n)
 
--- a reader that takes from `least` to `most` bytes
-pub record Extent {A : Type 0} (Ends : A → ℕ → Type 0) (least most : ℕ) (f : List ℕ → ℕ → A) : Type 0 where
-  pub reach : (s : List ℕ) (at n : ℕ) → Ends (f s at) n → (at + least ≤ n) × (n ≤ at + most)
+-- what readers answer: where an answer ends, and how it is refused
+pub record Kind (A : Type 0) : Type 1 where
+  pub ends : A → ℕ → Type 0
+  pub refuse : AeroError → A
+  pub never : (e : AeroError) (n : ℕ) → ends (refuse e) n → ⊥
+
+abbrev bytes : Kind ByteRead
+bytes = record { ends = byteEnds; refuse = NoByte; never = λ e n i. i }
+
+abbrev numbers : Kind NumberRead
+numbers = record { ends = numberEnds; refuse = NoNumber; never = λ e n i. i }
+
+abbrev pairs : Kind PairRead
+pairs = record { ends = pairEnds; refuse = NoPair; never = λ e n i. i }
+
+abbrev shapes : Kind ShapeRead
+shapes = record { ends = shapeEnds; refuse = NoShape; never = λ e n i. i }
+
+abbrev pub parts : Kind PartRead
+parts = record { ends = partEnds; refuse = NoPart; never = λ e n i. i }
+
+pub never-settings : (e : AeroError) (n : ℕ) → settingsEnds (noSettings e) n → ⊥
+never-settings e n i = let p = i .0 in let z : _≡_ {A = ℕ} 0 1 = cc in absurd (omega arith)
+
+abbrev pub settings : Kind SettingsRead
+settings = record { ends = settingsEnds; refuse = noSettings; never = never-settings }
+
+-- a reader that takes from `least` to `most` bytes. An answer that ends at n is the same in the first N bytes, or is refused with 4 where n lies past them
+pub record Extent {A : Type 0} (K : Kind A) (least most : ℕ) (f : List ℕ → ℕ → A) : Type 0 where
+  pub reach : (s : List ℕ) (at n : ℕ) → K .ends (f s at) n → (at + least ≤ n) × (n ≤ at + most)
   pub same : (s : List ℕ) (N at : ℕ) → at + most ≤ N → f s at ≡ f (take N s) at
+  pub kept : (s : List ℕ) (N at n : ℕ) → K .ends (f s at) n → n ≤ N → f s at ≡ f (take N s) at
+  pub cut : (s : List ℕ) (N at n : ℕ) → K .ends (f s at) n → at ≤ N → N < n → f (take N s) at ≡ K .refuse (Broken CardEnds)
 
 -- ---- one reader after the other
 
 -- what follows an answer that ends as `Here` says: nothing, or a reader from there on
-record Goes {B : Type 0} (Ends : B → ℕ → Type 0) (least most : ℕ) (Here : ℕ → Type 0) (h : List ℕ → B) : Type 0 where
-  reach : (s : List ℕ) (n : ℕ) → Ends (h s) n → (m : ℕ) × Here m × (m + least ≤ n) × (n ≤ m + most)
+record Goes {B : Type 0} (K : Kind B) (least most : ℕ) (Here : ℕ → Type 0) (h : List ℕ → B) : Type 0 where
+  reach : (s : List ℕ) (n : ℕ) → K .ends (h s) n → (m : ℕ) × Here m × (m + least ≤ n) × (n ≤ m + most)
   same : (s : List ℕ) (N : ℕ) → ((m : ℕ) → Here m → m + most ≤ N) → h s ≡ h (take N s)
+  kept : (s : List ℕ) (N n : ℕ) → K .ends (h s) n → n ≤ N → h s ≡ h (take N s)
+  cut : (s : List ℕ) (N n m : ℕ) → K .ends (h s) n → Here m → m ≤ N → N < n → h (take N s) ≡ K .refuse (Broken CardEnds)
 
-module _ {B : Type 0} {Ends : B → ℕ → Type 0} {least most : ℕ} where
-  goes : (m : ℕ) (go : List ℕ → ℕ → B) → Extent Ends least most go → Goes Ends least most (λ n. m ≡ n) (λ s. go s m)
-  goes m go G = record { reach = λ s n e. (m, refl, G .reach s m n e .0, G .reach s m n e .1); same = λ s N h. G .same s N m (h m refl) }
-
-  -- a refusal, whatever the bytes are
-  stops : (r : B) → ((n : ℕ) → Ends r n → ⊥) → Extent Ends least most (λ s at. r)
-  stops r h = record { reach = λ s at n e. absurd (h n e); same = λ s N at i. refl }
-
-  ended : {Here : ℕ → Type 0} (r : B) → ((n : ℕ) → Ends r n → ⊥) → Goes Ends least most Here (λ s. r)
-  ended r h = record { reach = λ s n e. absurd (h n e); same = λ s N i. refl }
-
-  followed : {A : Type 0} {First : A → ℕ → Type 0} {j k : ℕ} {f : List ℕ → ℕ → A} (g : A → List ℕ → B) → Extent First j k f → ((a : A) → Goes Ends least most (First a) (g a))
-      → Extent Ends (j + least) (k + most) (λ s at. g (f s at) s)
-  followed {A} {First} {j} {k} {f} g F G = record {
-    reach = λ s at n e. let w = G (f s at) .reach s n e in let i = F .reach s at (w .0) (w .1) in omega (arith, i, w .2, w .3);
-    same = λ s N at h. G (f s at) .same s N (λ m i. let r = F .reach s at m i in omega (arith, r)) ∙ ap (λ (a : A). g a (take N s)) (F .same s N at (omega arith));
+module _ {B : Type 0} {K : Kind B} {least most : ℕ} where
+  goes : (m : ℕ) (go : List ℕ → ℕ → B) → Extent K least most go → Goes K least most (λ n. m ≡ n) (λ s. go s m)
+  goes m go G = record {
+    reach = λ s n e. (m, refl, G .reach s m n e .0, G .reach s m n e .1);
+    same = λ s N h. G .same s N m (h m refl);
+    kept = λ s N n e h. G .kept s N m n e h;
+    cut = λ s N n p e i h k. G .cut s N m n e (omega (arith, i)) k;
   }
 
-  module _ (refuse : AeroError → B) (never : (e : AeroError) (n : ℕ) → Ends (refuse e) n → ⊥) where
-    on-byte : {j k : ℕ} {f : List ℕ → ℕ → ByteRead} (go : ℕ → List ℕ → ℕ → B) → Extent byteEnds j k f → ((b : ℕ) → Extent Ends least most (go b))
-        → Extent Ends (j + least) (k + most) (λ s at. onByte (f s at) refuse (λ b next. go b s next))
-    on-byte go F G = followed (λ r s. onByte r refuse (λ b next. go b s next)) F by-cases
-      where
-        by-cases : (r : ByteRead) → Goes Ends least most (byteEnds r) (λ s. onByte r refuse (λ b next. go b s next))
-        by-cases (Byte b m) = goes m (go b) (G b)
-        by-cases (NoByte e) = ended (refuse e) (never e)
+  -- a refusal, whatever the bytes are
+  stops : (e : AeroError) → Extent K least most (λ s at. K .refuse e)
+  stops e = record { reach = λ s at n i. absurd (K .never e n i); same = λ s N at h. refl; kept = λ s N at n i h. refl; cut = λ s N at n i h k. absurd (K .never e n i) }
 
-    on-number : {j k : ℕ} {f : List ℕ → ℕ → NumberRead} (go : Float → List ℕ → ℕ → B) → Extent numberEnds j k f → ((x : Float) → Extent Ends least most (go x))
-        → Extent Ends (j + least) (k + most) (λ s at. onNumber (f s at) refuse (λ x next. go x s next))
-    on-number go F G = followed (λ r s. onNumber r refuse (λ x next. go x s next)) F by-cases
-      where
-        by-cases : (r : NumberRead) → Goes Ends least most (numberEnds r) (λ s. onNumber r refuse (λ x next. go x s next))
-        by-cases (Number x m) = goes m (go x) (G x)
-        by-cases (NoNumber e) = ended (refuse e) (never e)
+  ended : {Here : ℕ → Type 0} (e : AeroError) → Goes K least most Here (λ s. K .refuse e)
+  ended e = record { reach = λ s n i. absurd (K .never e n i); same = λ s N h. refl; kept = λ s N n i h. refl; cut = λ s N n m i j h k. absurd (K .never e n i) }
 
-    on-pair : {j k : ℕ} {f : List ℕ → ℕ → PairRead} (go : Float → Float → List ℕ → ℕ → B) → Extent pairEnds j k f → ((x y : Float) → Extent Ends least most (go x y))
-        → Extent Ends (j + least) (k + most) (λ s at. onPair (f s at) refuse (λ x y next. go x y s next))
-    on-pair go F G = followed (λ r s. onPair r refuse (λ x y next. go x y s next)) F by-cases
+  module _ {A : Type 0} {J : Kind A} {j k : ℕ} {f : List ℕ → ℕ → A} (g : A → List ℕ → B) (F : Extent J j k f) (G : (a : A) → Goes K least most (J .ends a) (g a)) where
+    -- bytes that end inside the first reader are refused as it refuses them
+    followed : ((s : List ℕ) → g (J .refuse (Broken CardEnds)) s ≡ K .refuse (Broken CardEnds)) → Extent K (j + least) (k + most) (λ s at. g (f s at) s)
+    followed through = record {
+      reach = λ s at n e. let w = G (f s at) .reach s n e in let i = F .reach s at (w .0) (w .1) in omega (arith, i, w .2, w .3);
+      same = λ s N at h. G (f s at) .same s N (λ m i. let r = F .reach s at m i in omega (arith, r)) ∙ ap (λ (a : A). g a (take N s)) (F .same s N at (omega arith));
+      kept = λ s N at n e h. let w = G (f s at) .reach s n e in G (f s at) .kept s N n e h ∙ ap (λ (a : A). g a (take N s)) (F .kept s N at (w .0) (w .1) (omega (arith, w .2)));
+      cut = λ s N at n e h i. let w = G (f s at) .reach s n e in by-test s N at n (w .0) e (w .1) h i (ltb N (w .0)) refl;
+    }
       where
-        by-cases : (r : PairRead) → Goes Ends least most (pairEnds r) (λ s. onPair r refuse (λ x y next. go x y s next))
-        by-cases (Pair x y m) = goes m (go x y) (G x y)
-        by-cases (NoPair e) = ended (refuse e) (never e)
+        by-test : (s : List ℕ) (N at n m : ℕ) → K .ends (g (f s at) s) n → J .ends (f s at) m → at ≤ N → N < n → (t : Bool) → ltb N m ≡ t → g (f (take N s) at) (take N s) ≡ K .refuse (Broken CardEnds)
+        by-test s N at n m e i h l true q = ap (λ (a : A). g a (take N s)) (F .cut s N at m i h (ltb-true N m q)) ∙ through (take N s)
+        by-test s N at n m e i h l false q = let z = ltb-false N m q in ap (λ (a : A). g a (take N s)) (sym (F .kept s N at m i z)) ∙ G (f s at) .cut s N n m e i z l
+
+  on-byte : {j k : ℕ} {f : List ℕ → ℕ → ByteRead} (go : ℕ → List ℕ → ℕ → B) → Extent bytes j k f → ((b : ℕ) → Extent K least most (go b))
+      → Extent K (j + least) (k + most) (λ s at. onByte (f s at) (K .refuse) (λ b next. go b s next))
+  on-byte go F G = followed (λ r s. onByte r (K .refuse) (λ b next. go b s next)) F by-cases (λ s. refl)
+    where
+      by-cases : (r : ByteRead) → Goes K least most (byteEnds r) (λ s. onByte r (K .refuse) (λ b next. go b s next))
+      by-cases (Byte b m) = goes m (go b) (G b)
+      by-cases (NoByte e) = ended e
+
+  on-number : {j k : ℕ} {f : List ℕ → ℕ → NumberRead} (go : Float → List ℕ → ℕ → B) → Extent numbers j k f → ((x : Float) → Extent K least most (go x))
+      → Extent K (j + least) (k + most) (λ s at. onNumber (f s at) (K .refuse) (λ x next. go x s next))
+  on-number go F G = followed (λ r s. onNumber r (K .refuse) (λ x next. go x s next)) F by-cases (λ s. refl)
+    where
+      by-cases : (r : NumberRead) → Goes K least most (numberEnds r) (λ s. onNumber r (K .refuse) (λ x next. go x s next))
+      by-cases (Number x m) = goes m (go x) (G x)
+      by-cases (NoNumber e) = ended e
+
+  on-pair : {j k : ℕ} {f : List ℕ → ℕ → PairRead} (go : Float → Float → List ℕ → ℕ → B) → Extent pairs j k f → ((x y : Float) → Extent K least most (go x y))
+      → Extent K (j + least) (k + most) (λ s at. onPair (f s at) (K .refuse) (λ x y next. go x y s next))
+  on-pair go F G = followed (λ r s. onPair r (K .refuse) (λ x y next. go x y s next)) F by-cases (λ s. refl)
+    where
+      by-cases : (r : PairRead) → Goes K least most (pairEnds r) (λ s. onPair r (K .refuse) (λ x y next. go x y s next))
+      by-cases (Pair x y m) = goes m (go x y) (G x y)
+      by-cases (NoPair e) = ended e
 
   -- a test that refuses first, or last
-  refused-if : (t : Bool) (r : B) {f : List ℕ → ℕ → B} → ((n : ℕ) → Ends r n → ⊥) → Extent Ends least most f → Extent Ends least most (λ s at. cond t r (f s at))
-  refused-if true r h F = stops r h
-  refused-if false r h F = F
+  refused-if : (t : Bool) (e : AeroError) {f : List ℕ → ℕ → B} → Extent K least most f → Extent K least most (λ s at. cond t (K .refuse e) (f s at))
+  refused-if true e F = stops e
+  refused-if false e F = F
 
-  refused-else : (t : Bool) (r : B) {f : List ℕ → ℕ → B} → ((n : ℕ) → Ends r n → ⊥) → Extent Ends least most f → Extent Ends least most (λ s at. cond t (f s at) r)
-  refused-else true r h F = F
-  refused-else false r h F = stops r h
+  refused-else : (t : Bool) (e : AeroError) {f : List ℕ → ℕ → B} → Extent K least most f → Extent K least most (λ s at. cond t (f s at) (K .refuse e))
+  refused-else true e F = F
+  refused-else false e F = stops e
 
 -- ---- bytes and numbers, in a stream s and in its first N bytes
 
@@ -134,6 +177,9 @@ module _ (s : List ℕ) (N : ℕ) where
       by-test : (t : Bool) → leb (at + n) (length s) ≡ t → t ≡ leb (at + n) (length (take N s))
       by-test true e = let k = leb-true (at + n) (length s) e in sym (le-leb (at + n) (length (take N s)) (omega (arith, l)))
       by-test false e = let k = leb-false (at + n) (length s) e in sym (lt-leb (at + n) (length (take N s)) (omega (arith, l)))
+
+  cut-has : (at n : ℕ) → N < at + n → has (take N s) at n ≡ false
+  cut-has at n h = let l = length-take N s in lt-leb (at + n) (length (take N s)) (omega (arith, l))
 
   same-get : (at : ℕ) → at < N → getD s at 0 ≡ getD (take N s) at 0
   same-get at h = sym (getD-take N s at 0 h)
@@ -164,109 +210,119 @@ module _ (s : List ℕ) (N : ℕ) where
 -- ---- the readers
 
 -- an answer that is there, where its k bytes are
-there : {A : Type 0} (Ends : A → ℕ → Type 0) (k : ℕ) (found : List ℕ → ℕ → A) (lost : A) → ((n : ℕ) → Ends lost n → ⊥) → ((s : List ℕ) (at n : ℕ) → Ends (found s at) n → at + k ≡ n)
-    → ((s : List ℕ) (N at : ℕ) → at + k ≤ N → found s at ≡ found (take N s) at) → Extent Ends k k (λ s at. cond (has s at k) (found s at) lost)
-there {A} Ends k found lost h e i = record { reach = λ s at. by-test s at (has s at k); same = λ s N at l. rw (same-has s N at k l, i s N at l) }
+there : {A : Type 0} (K : Kind A) (k : ℕ) (found : List ℕ → ℕ → A) → ((s : List ℕ) (at n : ℕ) → K .ends (found s at) n → at + k ≡ n)
+    → ((s : List ℕ) (N at : ℕ) → at + k ≤ N → found s at ≡ found (take N s) at) → Extent K k k (λ s at. cond (has s at k) (found s at) (K .refuse (Broken CardEnds)))
+there {A} K k found e i = record {
+  reach = λ s at. by-test s at (has s at k);
+  same = unmoved;
+  kept = λ s N at n j l. let q = by-test s at (has s at k) n j in unmoved s N at (omega (arith, q));
+  cut = λ s N at n j l m. let q = by-test s at (has s at k) n j in rw (cut-has s N at k (omega (arith, q)));
+}
   where
-    by-test : (s : List ℕ) (at : ℕ) (t : Bool) (n : ℕ) → Ends (cond t (found s at) lost) n → (at + k ≤ n) × (n ≤ at + k)
+    by-test : (s : List ℕ) (at : ℕ) (t : Bool) (n : ℕ) → K .ends (cond t (found s at) (K .refuse (Broken CardEnds))) n → (at + k ≤ n) × (n ≤ at + k)
     by-test s at true n j = let q = e s at n j in omega (arith, q)
-    by-test s at false n j = absurd (h n j)
+    by-test s at false n j = absurd (K .never (Broken CardEnds) n j)
+
+    unmoved : (s : List ℕ) (N at : ℕ) → at + k ≤ N → cond (has s at k) (found s at) (K .refuse (Broken CardEnds)) ≡ cond (has (take N s) at k) (found (take N s) at) (K .refuse (Broken CardEnds))
+    unmoved s N at l = rw (same-has s N at k l, i s N at l)
 
 -- a field that may be absent
-absent : {A : Type 0} (Ends : A → ℕ → Type 0) (k : ℕ) (f : ℕ → A) → ((at n : ℕ) → Ends (f at) n → at ≡ n) → Extent Ends 0 k (λ s at. f at)
-absent Ends k f e = record { reach = λ s at n j. let q = e at n j in omega (arith, q); same = λ s N at l. refl }
+absent : {A : Type 0} (K : Kind A) (k : ℕ) (f : ℕ → A) → ((at n : ℕ) → K .ends (f at) n → at ≡ n) → Extent K 0 k (λ s at. f at)
+absent K k f e = record {
+  reach = λ s at n j. let q = e at n j in omega (arith, q);
+  same = λ s N at l. refl;
+  kept = λ s N at n j l. refl;
+  cut = λ s N at n j l m. let q = e at n j in absurd (omega (arith, q));
+}
 
-no-less : {A : Type 0} {Ends : A → ℕ → Type 0} {k : ℕ} {f : List ℕ → ℕ → A} → Extent Ends k k f → Extent Ends 0 k f
-no-less F = record { reach = λ s at n e. let r = F .reach s at n e in omega (arith, r); same = F .same }
+no-less : {A : Type 0} {K : Kind A} {k : ℕ} {f : List ℕ → ℕ → A} → Extent K k k f → Extent K 0 k f
+no-less F = record { reach = λ s at n e. let r = F .reach s at n e in omega (arith, r); same = F .same; kept = F .kept; cut = F .cut }
 
-map-extent : Extent byteEnds 1 1 (byteAt true)
-map-extent = there byteEnds 1 (λ s at. Byte (getD s at 0) (at + 1)) (NoByte (Broken CardEnds)) (λ n e. e) (λ s at n e. e) (λ s N at h. rw (same-get s N at (omega arith)))
+map-extent : Extent bytes 1 1 (byteAt true)
+map-extent = there bytes 1 (λ s at. Byte (getD s at 0) (at + 1)) (λ s at n e. e) (λ s N at h. rw (same-get s N at (omega arith)))
 
-byte-extent : (present : Bool) → Extent byteEnds 0 1 (byteAt present)
-byte-extent false = absent byteEnds 1 (Byte 0) (λ at n e. e)
+byte-extent : (present : Bool) → Extent bytes 0 1 (byteAt present)
+byte-extent false = absent bytes 1 (Byte 0) (λ at n e. e)
 byte-extent true = no-less map-extent
 
-number-extent : (present : Bool) → Extent numberEnds 0 number-bytes (numberAt present)
-number-extent false = absent numberEnds number-bytes (Number 0·0) (λ at n e. e)
-number-extent true = no-less (there numberEnds number-bytes (λ s at. Number (bits (eightBytes s at)) (at + number-bytes)) (NoNumber (Broken CardEnds)) (λ n e. e) (λ s at n e. e) (λ s N at h. rw (same-eight s N at h)))
+number-extent : (present : Bool) → Extent numbers 0 number-bytes (numberAt present)
+number-extent false = absent numbers number-bytes (Number 0·0) (λ at n e. e)
+number-extent true = no-less (there numbers number-bytes (λ s at. Number (bits (eightBytes s at)) (at + number-bytes)) (λ s at n e. e) (λ s N at h. rw (same-eight s N at h)))
 
-pair-extent : (p q : Bool) → Extent pairEnds 0 pair-bytes (pairAt p q)
+pair-extent : (p q : Bool) → Extent pairs 0 pair-bytes (pairAt p q)
 unfolding pairAt
 pair-extent p q =
-    on-number NoPair (λ e n i. i) (λ x s at. onNumber (numberAt q s at) NoPair (λ y last. Pair x y last)) (number-extent p) λ x.
-    on-number NoPair (λ e n i. i) (λ y s at. Pair x y at) (number-extent q) λ y.
-    absent pairEnds 0 (Pair x y) (λ at n e. e)
+    on-number (λ x s at. onNumber (numberAt q s at) NoPair (λ y last. Pair x y last)) (number-extent p) λ x.
+    on-number (λ y s at. Pair x y at) (number-extent q) λ y.
+    absent pairs 0 (Pair x y) (λ at n e. e)
 
 -- ---- part cards
 
-parameter-extent : (present : Bool) (n : ℕ) → Extent shapeEnds 0 number-bytes (parameterAt present n)
+parameter-extent : (present : Bool) (n : ℕ) → Extent shapes 0 number-bytes (parameterAt present n)
 unfolding parameterAt
 parameter-extent present n =
-    refused-else (parameterRight present n) (NoShape (Broken FieldMissing)) (λ n e. e)
-    (on-number NoShape (λ e n i. i) (λ x s at. Shape (shapeOf n x) at) (number-extent present) λ x.
-    absent shapeEnds 0 (Shape (shapeOf n x)) (λ at n e. e))
+    refused-else (parameterRight present n) (Broken FieldMissing)
+    (on-number (λ x s at. Shape (shapeOf n x) at) (number-extent present) λ x.
+    absent shapes 0 (Shape (shapeOf n x)) (λ at n e. e))
 
-shape-extent : (map : ℕ) → Extent shapeEnds 0 (1 + number-bytes) (shapeAt map)
+shape-extent : (map : ℕ) → Extent shapes 0 (1 + number-bytes) (shapeAt map)
 unfolding shapeAt
 shape-extent map =
-    on-byte NoShape (λ e n i. i) (λ n s at. cond (ltb 5 n) (NoShape (Broken ReservedBit)) (parameterAt (bit 1 map) n s at)) (byte-extent (bit 0 map)) λ n.
-    refused-if (ltb 5 n) (NoShape (Broken ReservedBit)) (λ n e. e) (parameter-extent (bit 1 map) n)
+    on-byte (λ n s at. cond (ltb 5 n) (NoShape (Broken ReservedBit)) (parameterAt (bit 1 map) n s at)) (byte-extent (bit 0 map)) λ n.
+    refused-if (ltb 5 n) (Broken ReservedBit) (parameter-extent (bit 1 map) n)
 
-rest-extent : (shape : NoseShape) (map : ℕ) → Extent partEnds 0 (2 * pair-bytes) (restAt shape map)
+rest-extent : (shape : NoseShape) (map : ℕ) → Extent parts 0 (2 * pair-bytes) (restAt shape map)
 unfolding restAt
 rest-extent shape map =
     let made : Float → Float → Float → Float → Part = λ L d angle w. record { shape = shape; length = L; «aft_diameter» = d; «joint_angle» = angle; «wetted_ratio» = w } in
-    on-pair NoPart (λ e n i. i) (λ L d s at. onPair (pairAt (bit 4 map) (bit 5 map) s at) NoPart (λ angle w last. Read (made L d angle w) last)) (pair-extent (bit 2 map) (bit 3 map)) λ L d.
-    on-pair NoPart (λ e n i. i) (λ angle w s at. Read (made L d angle w) at) (pair-extent (bit 4 map) (bit 5 map)) λ angle w.
-    absent partEnds 0 (Read (made L d angle w)) (λ at n e. e)
+    on-pair (λ L d s at. onPair (pairAt (bit 4 map) (bit 5 map) s at) NoPart (λ angle w last. Read (made L d angle w) last)) (pair-extent (bit 2 map) (bit 3 map)) λ L d.
+    on-pair (λ angle w s at. Read (made L d angle w) at) (pair-extent (bit 4 map) (bit 5 map)) λ angle w.
+    absent parts 0 (Read (made L d angle w)) (λ at n e. e)
 
-fields-extent : (map : ℕ) → Extent partEnds 0 (1 + 5 * number-bytes) (partFields map)
+fields-extent : (map : ℕ) → Extent parts 0 (1 + 5 * number-bytes) (partFields map)
 unfolding partFields
 fields-extent map =
-    refused-if (ltb 63 map) (NoPart (Broken ReservedBit)) (λ n e. e)
-    (followed (λ r s. onShape r (λ shape next. restAt shape map s next)) (shape-extent map) by-cases)
+    refused-if (ltb 63 map) (Broken ReservedBit)
+    (followed (λ r s. onShape r (λ shape next. restAt shape map s next)) (shape-extent map) by-cases (λ s. refl))
   where
-    by-cases : (r : ShapeRead) → Goes partEnds 0 (2 * pair-bytes) (shapeEnds r) (λ s. onShape r (λ shape next. restAt shape map s next))
+    by-cases : (r : ShapeRead) → Goes parts 0 (2 * pair-bytes) (shapeEnds r) (λ s. onShape r (λ shape next. restAt shape map s next))
     by-cases (Shape shape m) = goes m (restAt shape map) (rest-extent shape map)
-    by-cases (NoShape e) = ended (NoPart e) (λ n i. i)
+    by-cases (NoShape e) = ended e
 
-pub part-extent : Extent partEnds 1 part-bytes partAt
+pub part-extent : Extent parts 1 part-bytes partAt
 unfolding partAt
-part-extent = on-byte NoPart (λ e n i. i) partFields map-extent fields-extent
+part-extent = on-byte partFields map-extent fields-extent
 
 -- ---- settings cards
 
-no-settings : (e : AeroError) (n : ℕ) → settingsEnds (noSettings e) n → ⊥
-no-settings e n i = let p = i .0 in let z : _≡_ {A = ℕ} 0 1 = cc in absurd (omega arith)
-
-columns-extent : (D roughness B : Float) (n : ℕ) → Extent settingsEnds 0 (most-columns * pair-bytes) (columnsAt D roughness B n)
+columns-extent : (D roughness B : Float) (n : ℕ) → Extent settings 0 (most-columns * pair-bytes) (columnsAt D roughness B n)
 unfolding columnsAt
 columns-extent D roughness B n = by-count (ltb most-columns n) refl
   where
     made : List ℕ → ℕ → SettingsRead
     made s at = record { outcome = Passed; settings = record { «reference_diameter» = D; roughness = roughness; «body_fineness» = B; count = n; machs = slots n (numbersAt n s at); reynolds = slots n (numbersAt n s (at + number-bytes)) }; next = at + pair-bytes * n }
 
-    all : Extent settingsEnds (pair-bytes * n) (pair-bytes * n) (λ s at. cond (has s at (pair-bytes * n)) (made s at) (noSettings (Broken CardEnds)))
-    all = there settingsEnds (pair-bytes * n) made (noSettings (Broken CardEnds)) (no-settings (Broken CardEnds)) (λ s at n e. e .1) (λ s N at h. rw (same-numbers s N n at (omega arith), same-numbers s N n (at + number-bytes) (omega arith)))
+    all : Extent settings (pair-bytes * n) (pair-bytes * n) (λ s at. cond (has s at (pair-bytes * n)) (made s at) (noSettings (Broken CardEnds)))
+    all = there settings (pair-bytes * n) made (λ s at n e. e .1) (λ s N at h. rw (same-numbers s N n at (omega arith), same-numbers s N n (at + number-bytes) (omega arith)))
 
-    by-count : (t : Bool) → ltb most-columns n ≡ t → Extent settingsEnds 0 (most-columns * pair-bytes) (λ s at. cond t (noSettings (Broken TooManyColumns)) (cond (has s at (pair-bytes * n)) (made s at) (noSettings (Broken CardEnds))))
-    by-count true e = stops (noSettings (Broken TooManyColumns)) (no-settings (Broken TooManyColumns))
-    by-count false e = let k = ltb-false most-columns n e in record { reach = λ s at m i. let r = all .reach s at m i in omega (arith, r); same = λ s N at h. all .same s N at (omega arith) }
+    by-count : (t : Bool) → ltb most-columns n ≡ t → Extent settings 0 (most-columns * pair-bytes) (λ s at. cond t (noSettings (Broken TooManyColumns)) (cond (has s at (pair-bytes * n)) (made s at) (noSettings (Broken CardEnds))))
+    by-count true e = stops (Broken TooManyColumns)
+    by-count false e = let k = ltb-false most-columns n e in record { reach = λ s at m i. let r = all .reach s at m i in omega (arith, r); same = λ s N at h. all .same s N at (omega arith); kept = all .kept; cut = all .cut }
 
-fineness-extent : (map : ℕ) (D roughness : Float) → Extent settingsEnds 0 (number-bytes + (1 + most-columns * pair-bytes)) (finenessAt map D roughness)
+fineness-extent : (map : ℕ) (D roughness : Float) → Extent settings 0 (number-bytes + (1 + most-columns * pair-bytes)) (finenessAt map D roughness)
 unfolding finenessAt
 fineness-extent map D roughness =
-    on-number noSettings no-settings (λ B s at. onByte (byteAt (bit 3 map) s at) noSettings (λ n last. columnsAt D roughness B n s last)) (number-extent true) λ B.
-    on-byte noSettings no-settings (columnsAt D roughness B) (byte-extent (bit 3 map)) (columns-extent D roughness B)
+    on-number (λ B s at. onByte (byteAt (bit 3 map) s at) noSettings (λ n last. columnsAt D roughness B n s last)) (number-extent true) λ B.
+    on-byte (columnsAt D roughness B) (byte-extent (bit 3 map)) (columns-extent D roughness B)
 
-settings-fields-extent : (map : ℕ) → Extent settingsEnds 0 (3 * number-bytes + (1 + most-columns * pair-bytes)) (settingsFields map)
+settings-fields-extent : (map : ℕ) → Extent settings 0 (3 * number-bytes + (1 + most-columns * pair-bytes)) (settingsFields map)
 unfolding settingsFields
 settings-fields-extent map =
-    refused-if (ltb 15 map) (noSettings (Broken ReservedBit)) (no-settings (Broken ReservedBit))
-    (refused-if (not (bit 0 map)) (noSettings (Broken FieldMissing)) (no-settings (Broken FieldMissing))
-    (refused-if (not (bit 2 map)) (noSettings (Broken FieldMissing)) (no-settings (Broken FieldMissing))
-    (on-pair noSettings no-settings (finenessAt map) (pair-extent true (bit 1 map)) (fineness-extent map))))
+    refused-if (ltb 15 map) (Broken ReservedBit)
+    (refused-if (not (bit 0 map)) (Broken FieldMissing)
+    (refused-if (not (bit 2 map)) (Broken FieldMissing)
+    (on-pair (finenessAt map) (pair-extent true (bit 1 map)) (fineness-extent map))))
 
-pub settings-extent : Extent settingsEnds 1 settings-bytes settingsAt
+pub settings-extent : Extent settings 1 settings-bytes settingsAt
 unfolding settingsAt
-settings-extent = on-byte noSettings no-settings settingsFields map-extent settings-fields-extent
+settings-extent = on-byte settingsFields map-extent settings-fields-extent
