@@ -2,8 +2,9 @@
 //! Program): bytes in, the lines of the sheet or `refused N card K` out. The calls are those of the
 //! model of the sheet.
 //!
-//! It is written from the project's scope alone, which docs/REFERENCE.md tells. Bytes are looked at
-//! from left to right, one field at a time, and nothing behind the first refusal is looked at.
+//! It is written from the project's scope and requests alone, which docs/REFERENCE.md tells. Bytes
+//! are looked at from left to right, one field at a time, and nothing behind the first refusal is
+//! looked at.
 
 use crate::answer_bits;
 pub use crate::builds::fixed_steps::shape_of;
@@ -12,7 +13,7 @@ use crate::model::{
 };
 use crate::original_fixed::NoseShape;
 
-/// "bytes end inside a card, or none at all"; where no card is asked for, no bytes are [`NO_CARD`].
+/// "bytes end inside a card", or before it.
 const ENDED: u8 = 4;
 /// "reserved bit, shape byte above 5".
 const RESERVED: u8 = 5;
@@ -156,7 +157,7 @@ pub fn read_part(bytes: &[u8], at: usize) -> Result<(Part, usize), u8> {
 
 // ---- the program
 
-/// What no bytes at all mean (document 02, request 10).
+/// "No bytes now mean D = 1, B = 1, roughness 0, no columns" (request 10).
 const NO_CARD: Settings = Settings {
     reference_diameter: 1.0,
     roughness: 0.0,

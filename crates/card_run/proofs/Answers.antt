@@ -1,4 +1,5 @@
--- What the calls below a run say by their outcome, that an accepted one leaves a sheet that fits its cells, and a run's contract once it is known where it stops.
+-- What the calls below a run say by their outcome, that an accepted one leaves a sheet that fits its cells, a run's contract once it is known where it stops, and
+-- what a stream comes to by its settings card.
 use mathlib.Core.Path.{_≡_, refl, sym, ap, _∙_, subst}
 use mathlib.Core.List.{List, [], _∷_}
 use Prim.Native.Nat.{ℕ, _+_, _≤_, _<_, min}

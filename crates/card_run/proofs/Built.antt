@@ -116,9 +116,9 @@ sequence (suc n) s at sheet xs h o = carded n s at sheet xs h (λ part next. seq
 
 -- ---- the whole stream
 
-first-long : (s : List ℕ) → Long (firstCard s)
-first-long [] = (refl, refl)
-first-long (b ∷ s) = settings-long (b ∷ s) 0
+first-arrays : (s : List ℕ) → Long (firstCard s)
+first-arrays [] = (refl, refl)
+first-arrays (b ∷ s) = settings-long (b ∷ s) 0
 
 module _ (s : List ℕ) (xs : List Float) where
   abbrev card : SettingsRead
@@ -134,7 +134,7 @@ module _ (s : List ℕ) (xs : List Float) where
       let ps = partsSaid (length s) s (card .next) in
       let answer : Answer = record { outcome = Passed; sheet = sheet } in
       let z : Opened (card .settings) xs answer ys = record { answer = rw t; left = rw t } in
-      let long = first-long s in
+      let long = first-arrays s in
       let a = lists-agree (card .settings) xs answer ys (long .0) (long .1) z .accepted refl (sequence (length s) s (card .next) sheet ys (omega arith) o) in
       let d : modelDecisions (length xs) (inserts 0 ps) (openedModel (card .settings)) ≡ accepted ps = sym (all-told-apart _ _ (a .answers)) in
       subst (Matches (opened .run .sheet) (opened .cells)) (appended (length xs) ps (openedModel (card .settings)) d) (a .matches)

@@ -95,7 +95,7 @@ noCard = record {
   next = 0;
 }
 
--- the settings card of a stream
+-- the settings card of a stream, asked for wherever there is a byte
 abbrev pub firstCard : List ℕ → SettingsRead
 firstCard [] = noCard
 firstCard (b ∷ s) = settingsAt (b ∷ s) 0

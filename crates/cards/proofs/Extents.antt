@@ -16,7 +16,7 @@ use Rattle.elementary.specs.Constants.{0·0}
 use Rattle.aero_error.specs.declared.AeroError.{AeroError}
 use Rattle.aero_error.specs.declared.AeroError.the-variants.{Broken}
 use Rattle.aero_error.specs.declared.Rule.the-variants.{CardEnds, ReservedBit, FieldMissing, TooManyColumns}
-use Rattle.aero_error.specs.declared.Check.the-variants.{Passed, Failed}
+use Rattle.aero_error.specs.declared.Check.the-variants.{Passed}
 use Rattle.shapes.specs.declared.NoseShape.{NoseShape}
 use Rattle.shapes.specs.Numbers.{shapeOf}
 use Rattle.sheet_data.specs.declared.Part.{Part}
@@ -35,7 +35,7 @@ use Rattle.cards.specs.declared.SettingsRead.{SettingsRead}
 use Rattle.cards.specs.Fields.{number-bytes, pair-bytes, bit, has, fourBytes, eightBytes, byteAt, numberAt, pairAt, numbersAt, onByte, onNumber, onPair}
 use Rattle.cards.specs.Cards.{parameterRight, parameterAt, shapeAt, restAt, onShape, partFields, partAt, noSettings, slots, columnsAt, finenessAt, settingsFields, settingsAt, settings-bytes, part-bytes}
 
--- what a reader answers ends at n; a refusal ends nowhere
+-- what a reader answers ends at n
 abbrev byteEnds : ByteRead → ℕ → Type 0
 byteEnds (Byte b m) n = m ≡ n
 byteEnds (NoByte e) n = ⊥
@@ -59,11 +59,15 @@ partEnds (NoPart e) n = ⊥
 abbrev pub settingsEnds : SettingsRead → ℕ → Type 0
 settingsEnds r n = (r .outcome ≡ Passed) × (r .next ≡ n)
 
--- what readers answer: where an answer ends, and how it is refused
+-- what a kind of readers answers: where an answer ends, and a refusal, which ends nowhere
 pub record Kind (A : Type 0) : Type 1 where
   pub ends : A → ℕ → Type 0
   pub refuse : AeroError → A
   pub never : (e : AeroError) (n : ℕ) → ends (refuse e) n → ⊥
+
+-- refusal 4
+abbrev pub short : {A : Type 0} → Kind A → A
+short K = K .refuse (Broken CardEnds)
 
 abbrev bytes : Kind ByteRead
 bytes = record { ends = byteEnds; refuse = NoByte; never = λ e n i. i }
@@ -91,7 +95,7 @@ pub record Extent {A : Type 0} (K : Kind A) (least most : ℕ) (f : List ℕ →
   pub reach : (s : List ℕ) (at n : ℕ) → K .ends (f s at) n → (at + least ≤ n) × (n ≤ at + most)
   pub same : (s : List ℕ) (N at : ℕ) → at + most ≤ N → f s at ≡ f (take N s) at
   pub kept : (s : List ℕ) (N at n : ℕ) → K .ends (f s at) n → n ≤ N → f s at ≡ f (take N s) at
-  pub cut : (s : List ℕ) (N at n : ℕ) → K .ends (f s at) n → at ≤ N → N < n → f (take N s) at ≡ K .refuse (Broken CardEnds)
+  pub cut : (s : List ℕ) (N at n : ℕ) → K .ends (f s at) n → at ≤ N → N < n → f (take N s) at ≡ short K
 
 -- ---- one reader after the other
 
@@ -100,7 +104,7 @@ record Goes {B : Type 0} (K : Kind B) (least most : ℕ) (Here : ℕ → Type 0)
   reach : (s : List ℕ) (n : ℕ) → K .ends (h s) n → (m : ℕ) × Here m × (m + least ≤ n) × (n ≤ m + most)
   same : (s : List ℕ) (N : ℕ) → ((m : ℕ) → Here m → m + most ≤ N) → h s ≡ h (take N s)
   kept : (s : List ℕ) (N n : ℕ) → K .ends (h s) n → n ≤ N → h s ≡ h (take N s)
-  cut : (s : List ℕ) (N n m : ℕ) → K .ends (h s) n → Here m → m ≤ N → N < n → h (take N s) ≡ K .refuse (Broken CardEnds)
+  cut : (s : List ℕ) (N n m : ℕ) → K .ends (h s) n → Here m → m ≤ N → N < n → h (take N s) ≡ short K
 
 module _ {B : Type 0} {K : Kind B} {least most : ℕ} where
   goes : (m : ℕ) (go : List ℕ → ℕ → B) → Extent K least most go → Goes K least most (λ n. m ≡ n) (λ s. go s m)
@@ -120,7 +124,7 @@ module _ {B : Type 0} {K : Kind B} {least most : ℕ} where
 
   module _ {A : Type 0} {J : Kind A} {j k : ℕ} {f : List ℕ → ℕ → A} (g : A → List ℕ → B) (F : Extent J j k f) (G : (a : A) → Goes K least most (J .ends a) (g a)) where
     -- bytes that end inside the first reader are refused as it refuses them
-    followed : ((s : List ℕ) → g (J .refuse (Broken CardEnds)) s ≡ K .refuse (Broken CardEnds)) → Extent K (j + least) (k + most) (λ s at. g (f s at) s)
+    followed : ((s : List ℕ) → g (short J) s ≡ short K) → Extent K (j + least) (k + most) (λ s at. g (f s at) s)
     followed through = record {
       reach = λ s at n e. let w = G (f s at) .reach s n e in let i = F .reach s at (w .0) (w .1) in omega (arith, i, w .2, w .3);
       same = λ s N at h. G (f s at) .same s N (λ m i. let r = F .reach s at m i in omega (arith, r)) ∙ ap (λ (a : A). g a (take N s)) (F .same s N at (omega arith));
@@ -128,7 +132,7 @@ module _ {B : Type 0} {K : Kind B} {least most : ℕ} where
       cut = λ s N at n e h i. let w = G (f s at) .reach s n e in by-test s N at n (w .0) e (w .1) h i (ltb N (w .0)) refl;
     }
       where
-        by-test : (s : List ℕ) (N at n m : ℕ) → K .ends (g (f s at) s) n → J .ends (f s at) m → at ≤ N → N < n → (t : Bool) → ltb N m ≡ t → g (f (take N s) at) (take N s) ≡ K .refuse (Broken CardEnds)
+        by-test : (s : List ℕ) (N at n m : ℕ) → K .ends (g (f s at) s) n → J .ends (f s at) m → at ≤ N → N < n → (t : Bool) → ltb N m ≡ t → g (f (take N s) at) (take N s) ≡ short K
         by-test s N at n m e i h l true q = ap (λ (a : A). g a (take N s)) (F .cut s N at m i h (ltb-true N m q)) ∙ through (take N s)
         by-test s N at n m e i h l false q = let z = ltb-false N m q in ap (λ (a : A). g a (take N s)) (sym (F .kept s N at m i z)) ∙ G (f s at) .cut s N n m e i z l
 
@@ -211,7 +215,7 @@ module _ (s : List ℕ) (N : ℕ) where
 
 -- an answer that is there, where its k bytes are
 there : {A : Type 0} (K : Kind A) (k : ℕ) (found : List ℕ → ℕ → A) → ((s : List ℕ) (at n : ℕ) → K .ends (found s at) n → at + k ≡ n)
-    → ((s : List ℕ) (N at : ℕ) → at + k ≤ N → found s at ≡ found (take N s) at) → Extent K k k (λ s at. cond (has s at k) (found s at) (K .refuse (Broken CardEnds)))
+    → ((s : List ℕ) (N at : ℕ) → at + k ≤ N → found s at ≡ found (take N s) at) → Extent K k k (λ s at. cond (has s at k) (found s at) (short K))
 there {A} K k found e i = record {
   reach = λ s at. by-test s at (has s at k);
   same = unmoved;
@@ -219,11 +223,11 @@ there {A} K k found e i = record {
   cut = λ s N at n j l m. let q = by-test s at (has s at k) n j in rw (cut-has s N at k (omega (arith, q)));
 }
   where
-    by-test : (s : List ℕ) (at : ℕ) (t : Bool) (n : ℕ) → K .ends (cond t (found s at) (K .refuse (Broken CardEnds))) n → (at + k ≤ n) × (n ≤ at + k)
+    by-test : (s : List ℕ) (at : ℕ) (t : Bool) (n : ℕ) → K .ends (cond t (found s at) (short K)) n → (at + k ≤ n) × (n ≤ at + k)
     by-test s at true n j = let q = e s at n j in omega (arith, q)
     by-test s at false n j = absurd (K .never (Broken CardEnds) n j)
 
-    unmoved : (s : List ℕ) (N at : ℕ) → at + k ≤ N → cond (has s at k) (found s at) (K .refuse (Broken CardEnds)) ≡ cond (has (take N s) at k) (found (take N s) at) (K .refuse (Broken CardEnds))
+    unmoved : (s : List ℕ) (N at : ℕ) → at + k ≤ N → cond (has s at k) (found s at) (short K) ≡ cond (has (take N s) at k) (found (take N s) at) (short K)
     unmoved s N at l = rw (same-has s N at k l, i s N at l)
 
 -- a field that may be absent

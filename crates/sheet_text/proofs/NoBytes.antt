@@ -1,5 +1,5 @@
 -- What is printed for no bytes, and that for every other stream it is what was printed when a settings card was asked of each.
-use mathlib.Core.Path.{_≡_, ap, _∙_}
+use mathlib.Core.Path.{_≡_, ap}
 use mathlib.Core.List.{List, [], _∷_}
 use Prim.Native.Nat.{ℕ, _<_}
 use lib.ListN.{length, replicate}
