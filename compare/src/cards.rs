@@ -157,7 +157,7 @@ pub fn read_part(bytes: &[u8], at: usize) -> Result<(Part, usize), u8> {
 
 // ---- the program
 
-/// "No bytes now mean D = 1, B = 1, roughness 0, no columns" (request 10).
+/// What stands for the settings card of a stream without any bytes.
 const NO_CARD: Settings = Settings {
     reference_diameter: 1.0,
     roughness: 0.0,
