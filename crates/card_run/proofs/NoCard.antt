@@ -3,20 +3,18 @@ use mathlib.Core.Path.{_≡_, refl, sym, ap, subst, _∙_}
 use mathlib.Core.List.{List, [], _∷_, _++_}
 use Prim.Native.Nat.{ℕ, _≤_, _<_}
 use native.Mathlib.Omega.{arith}
-use lib.ListN.{length}
+use lib.ListN.{length, drop}
 use lib.Ieee.{Float, le, ofBits}
 use borrow.Author.Tests.{le-ltb}
 use Rattle.elementary.specs.Tests.{between}
 use Rattle.aero_error.specs.declared.Check.the-variants.{Passed}
 use Rattle.aero_error.specs.Checks.{dimension, upTo}
-use Rattle.sheet_data.specs.Layout.{finishes}
-use Rattle.sheet_data.specs.Rows.{laid}
-use Rattle.sheet_data.specs.Tables.{tab}
+use Rattle.sheet_data.specs.Layout.{needed}
 use Rattle.sheet_data.specs.Contents.{contentsOf, blank}
 use Rattle.sheet_data.specs.Tests.{columnsTest, settingsTest}
 use Rattle.drag_sheet.specs.Writing.{whole, overwritten}
-use Rattle.drag_sheet.specs.Build.{build}
 use Rattle.drag_sheet.specs.Lists.{Matches}
+use Rattle.drag_sheet.proofs.Overwritten.{keeps}
 use Rattle.cards.specs.declared.SettingsRead.{SettingsRead}
 use Rattle.cards.specs.Fields.{eightBytes, pairAt, numbersAt}
 use Rattle.cards.specs.Cards.{columnsAt, finenessAt, settingsFields, settingsAt}
@@ -33,15 +31,20 @@ one = 0 ∷ 0 ∷ 0 ∷ 0 ∷ 0 ∷ 0 ∷ 0xf0 ∷ 0x3f ∷ []
 abbrev pub card-05 : List ℕ
 card-05 = 5 ∷ one ++ one
 
+-- no columns need no cells
+none-needed : needed 0 ≡ 0
+none-needed = omega arith
+
 module _ (xs : List Float) where
   -- these settings are accepted, however many cells there are, and nothing is written
   accepted : (cells : ℕ) → settingsTest (noCard .settings) cells ≡ Passed
-  unfolding settingsTest columnsTest between dimension upTo finishes le ofBits
-  accepted cells = rw (le-ltb cells 0 (omega arith))
+  unfolding settingsTest columnsTest between dimension upTo le ofBits
+  accepted cells = rw (le-ltb cells (needed 0) (omega arith))
 
   unwritten : overwritten whole (contentsOf (blank (noCard .settings))) xs ≡ xs
-  unfolding overwritten build laid tab finishes
-  unwritten = refl
+  unwritten =
+      let c = contentsOf (blank (noCard .settings)) in
+      subst (λ (n : ℕ). drop n (overwritten whole c xs) ≡ drop n xs) none-needed (keeps c xs (omega arith) whole tt .past)
 
   alone : (s : List ℕ) (card : SettingsRead) → card .outcome ≡ Passed → card .settings ≡ noCard .settings → length s ≤ card .next
       → streamFrom s card xs ≡ stoppedAt 1 Passed (blank (noCard .settings)) xs

@@ -22,7 +22,7 @@ use sheet_data::layout::PARTS;
 pub const STREAM_BYTES: usize = SETTINGS_BYTES + (PARTS + 1) * PART_BYTES;
 
 // A run's answer: what it came to, the card it stopped at, counted from 0, and the sheet as it is
-// then. An accepted run stops past its last card.
+// then. An accepted run stops past its last card; no bytes count as a settings card.
 pub struct Run {
     pub outcome: Check,
     pub card: usize,
