@@ -25,7 +25,7 @@ use Rattle.cards.specs.declared.SettingsRead.{SettingsRead}
 use Rattle.cards.specs.Cards.{settingsAt}
 use Rattle.card_run.specs.declared.Run.{Run}
 use Rattle.card_run.specs.Run.{Ran, stoppedAt, noCard, firstCard, streamOf, lastPlace, insertLast, sheetAfter, cellsAfter, allPartCards, Stopped}
-use Rattle.card_run.proofs.Stream.{sheetThen}
+use Rattle.card_run.proofs.Stream.{sheetThen, outcome}
 
 -- ---- what a call's contract says, by its outcome: of the sheet given or left, of the cells xs or zs
 
@@ -132,3 +132,12 @@ module _ (s : List ℕ) (xs : List Float) (card : SettingsRead) (i : card ≡ fi
       → streamOf s xs ≡ allPartCards s (card .next) (blank (card .settings)) (overwritten whole (contentsOf (blank (card .settings))) xs)
   unfolding streamOf
   stream-opened o t = rw (← i, o, t)
+
+  -- of a stream that is accepted the card was read and its settings passed
+  pub stream-passed : outcome (streamOf s xs) ≡ Passed → (card .outcome ≡ Passed) × (settingsTest (card .settings) (length xs) ≡ Passed)
+  stream-passed o = by (card .outcome) (settingsTest (card .settings) (length xs)) refl refl
+    where
+      by : (c d : Check) → card .outcome ≡ c → settingsTest (card .settings) (length xs) ≡ d → (card .outcome ≡ Passed) × (settingsTest (card .settings) (length xs) ≡ Passed)
+      by (Failed e) d p q = never (ap outcome (stream-unread e p)) o
+      by Passed (Failed e) p q = never (ap outcome (stream-unopened e p q)) o
+      by Passed Passed p q = (p, q)

@@ -1,17 +1,15 @@
 -- An accepted stream's cells are one build from nothing of the settings and the parts that its cards say. It is the theorem over lists of calls (`lists-agree`) for
 -- the list that a run makes: an open, and for each part card an insert at the end.
 use mathlib.Core.Path.{_≡_, refl, sym, ap, _∙_, subst}
-use mathlib.Core.Bool.{Bool, true, false, cond}
 use mathlib.Core.List.{List, [], _∷_, _++_, append-assoc, append-nil}
-use Prim.Native.Nat.{ℕ, zero, suc, _+_}
+use Prim.Native.Nat.{ℕ, zero, suc, _+_, _-_, _≤_}
 use native.Mathlib.Omega.{arith}
 use lib.ListN.{length, length-append}
 use lib.Seq.{take-length, drop-length}
-use lib.Dec.{ltb}
 use lib.Ieee.{Float}
-use Rattle.aero_error.specs.declared.AeroError.{AeroError}
+use borrow.Author.Tests.{le-ltb, lt-ltb}
 use Rattle.aero_error.specs.declared.Check.{Check}
-use Rattle.aero_error.specs.declared.Check.the-variants.{Passed, Failed}
+use Rattle.aero_error.specs.declared.Check.the-variants.{Passed}
 use Rattle.aero_error.specs.Told.{all-told-apart}
 use Rattle.sheet_data.specs.declared.Part.{Part}
 use Rattle.sheet_data.specs.declared.Sheet.{Sheet}
@@ -19,21 +17,18 @@ use Rattle.sheet_data.specs.Contents.{Contents, contentsOf, blank}
 use Rattle.sheet_data.specs.Tests.{settingsTest}
 use Rattle.drag_sheet.specs.declared.Answer.{Answer}
 use Rattle.drag_sheet.specs.Writing.{whole, overwritten}
-use Rattle.drag_sheet.specs.Calls.{Call, insert, insertAt, decision, Called, Opened}
+use Rattle.drag_sheet.specs.Calls.{Call, insert, insertAt, Called, Opened}
 use Rattle.drag_sheet.specs.Model.{openedModel, modelDecision, moved, modelAfter, modelDecisions}
 use Rattle.drag_sheet.specs.Lists.{Sequence, stop, go, Matches}
-use Rattle.drag_sheet.proofs.Verdicts.{never}
 use Rattle.drag_sheet.proofs.ListsLaw.{lists-agree}
-use Rattle.cards.specs.declared.PartRead.{PartRead}
-use Rattle.cards.specs.declared.PartRead.the-variants.{Read, Refused as NoPart}
 use Rattle.cards.specs.declared.SettingsRead.{SettingsRead}
-use Rattle.cards.specs.Cards.{partAt}
 use Rattle.cards.proofs.Arrays.{Long, settings-long}
 use Rattle.card_run.specs.declared.Run.{Run}
-use Rattle.card_run.specs.Run.{Ran, stopped, stoppedAt, onPart, onCheck, insertLast, partCards, firstCard, streamOf, Stopped}
-use Rattle.card_run.specs.Said.{withPart, partsSaid, said}
-use Rattle.card_run.proofs.Stream.{sheetThen, cellsThen}
+use Rattle.card_run.specs.Run.{Ran, insertLast, allPartCards, firstCard, streamOf, Stopped}
+use Rattle.card_run.specs.Said.{partsSaid, said}
+use Rattle.card_run.proofs.Stream.{sheetThen, cellsThen, part-reach, cards-end, part-accepted, outcome, Turn, ended, carded, turn}
 use Rattle.card_run.proofs.Prefix.{Held, one-more-held}
+use Rattle.card_run.proofs.Answers.{stream-opened, stream-passed}
 
 -- ---- the calls of a run
 
@@ -79,40 +74,28 @@ appended cells (p ∷ ps) m e =
 -- ---- a run that stops well made these calls, and each was accepted
 
 abbrev Ends : Sheet → List Float → Ran → List Part → Type 0
-Ends sheet xs ran ps = ran .run .outcome ≡ Passed → Sequence sheet xs (inserts (sheet .design .count) ps) (ran .run .sheet) (ran .cells) (accepted ps)
+Ends sheet xs ran ps = outcome ran ≡ Passed → Sequence sheet xs (inserts (sheet .design .count) ps) (ran .run .sheet) (ran .cells) (accepted ps)
 
--- one card, where what follows it is known
+-- one turn, where what follows it is known
 module _ (n : ℕ) (s : List ℕ) (at : ℕ) (sheet : Sheet) (xs : List Float) (held : Held sheet)
-    (again : (part : Part) (next : ℕ) → Ends (sheetThen sheet part) (cellsThen sheet part xs) (partCards n s next (sheetThen sheet part) (cellsThen sheet part xs)) (partsSaid n s next)) where
-  abbrev refuse : AeroError → Ran
-  refuse e = stopped (Failed e) sheet xs
-
-  abbrev rest : Part → ℕ → Ran
-  rest part next = partCards n s next (sheetThen sheet part) (cellsThen sheet part xs)
-
-  abbrev tail : Part → ℕ → Ran
-  tail part next = onCheck (decision (insertLast sheet part) sheet (length xs)) refuse (rest part next)
-
-  decided : (part : Part) (next : ℕ) (d : Check) → decision (insertLast sheet part) sheet (length xs) ≡ d → Ends sheet xs (onCheck d refuse (rest part next)) (part ∷ partsSaid n s next)
-  decided part next (Failed e) q o = never refl o
-  decided part next Passed q o =
+    (again : (part : Part) (next : ℕ) → at + 1 ≤ next → Ends (sheetThen sheet part) (cellsThen sheet part xs) (allPartCards s next (sheetThen sheet part) (cellsThen sheet part xs)) (partsSaid n s next)) where
+  called : Turn s at sheet xs → Ends sheet xs (allPartCards s at sheet xs) (partsSaid (suc n) s at)
+  unfolding partsSaid
+  called (ended l) o = rw (cards-end s at sheet xs l, le-ltb at (length s) l) stop
+  called (carded part next h p d) o =
       let r : Answer = record { outcome = Passed; sheet = sheetThen sheet part } in
-      let c : Called (insertLast sheet part) sheet xs r (cellsThen sheet part xs) = record { answer = rw q; left = rw q } in
-      go c (subst (λ (k : ℕ). Sequence (sheetThen sheet part) (cellsThen sheet part xs) (inserts k (partsSaid n s next)) (rest part next .run .sheet) (rest part next .cells) (accepted (partsSaid n s next)))
-      (one-more-held sheet part held .0) (again part next o))
+      let c : Called (insertLast sheet part) sheet xs r (cellsThen sheet part xs) = record { answer = rw d; left = rw d } in
+      let same = part-accepted s at sheet xs part next h p d in
+      let rest = allPartCards s next (sheetThen sheet part) (cellsThen sheet part xs) in
+      rw (same, lt-ltb at (length s) h, p)
+      (go c (subst (λ (k : ℕ). Sequence (sheetThen sheet part) (cellsThen sheet part xs) (inserts k (partsSaid n s next)) (rest .run .sheet) (rest .cells) (accepted (partsSaid n s next)))
+      (one-more-held sheet part held .0) (again part next (part-reach s at part next p .0) (ap outcome (sym same) ∙ o))))
 
-  read : (r : PartRead) → Ends sheet xs (onPart r refuse tail) (withPart r (partsSaid n s))
-  read (Read part next) = decided part next (decision (insertLast sheet part) sheet (length xs)) refl
-  read (NoPart e) = λ o. never refl o
-
-  carded : (t : Bool) → Ends sheet xs (cond t (onPart (partAt s at) refuse tail) (stopped Passed sheet xs)) (cond t (withPart (partAt s at) (partsSaid n s)) [])
-  carded true = read (partAt s at)
-  carded false = λ o. stop
-
-sequence : (n : ℕ) (s : List ℕ) (at : ℕ) (sheet : Sheet) (xs : List Float) → Held sheet → Ends sheet xs (partCards n s at sheet xs) (partsSaid n s at)
-unfolding partCards partsSaid
-sequence zero s at sheet xs h o = stop
-sequence (suc n) s at sheet xs h o = carded n s at sheet xs h (λ part next. sequence n s next (sheetThen sheet part) (cellsThen sheet part xs) (one-more-held sheet part h .1)) (ltb at (length s)) o
+sequence : (n : ℕ) (s : List ℕ) (at : ℕ) (sheet : Sheet) (xs : List Float) → Held sheet → length s - at ≤ n → Ends sheet xs (allPartCards s at sheet xs) (partsSaid n s at)
+unfolding partsSaid
+sequence zero s at sheet xs h l o = rw (cards-end s at sheet xs (omega arith)) stop
+sequence (suc n) s at sheet xs h l o =
+    called n s at sheet xs h (λ part next k. sequence n s next (sheetThen sheet part) (cellsThen sheet part xs) (one-more-held sheet part h .1) (omega arith)) (turn s at sheet xs o) o
 
 -- ---- the whole stream
 
@@ -125,33 +108,26 @@ module _ (s : List ℕ) (xs : List Float) where
   card = firstCard s
 
   abbrev opened : Ran
-  opened = partCards (length s) s (card .next) (blank (card .settings)) (overwritten whole (contentsOf (blank (card .settings))) xs)
+  opened = allPartCards s (card .next) (blank (card .settings)) (overwritten whole (contentsOf (blank (card .settings))) xs)
 
-  built-from : card .outcome ≡ Passed → settingsTest (card .settings) (length xs) ≡ Passed → opened .run .outcome ≡ Passed → Matches (opened .run .sheet) (opened .cells) (said s)
-  built-from r t o =
+  built-from : settingsTest (card .settings) (length xs) ≡ Passed → outcome opened ≡ Passed → Matches (opened .run .sheet) (opened .cells) (said s)
+  built-from t o =
       let sheet = blank (card .settings) in
       let ys = overwritten whole (contentsOf sheet) xs in
       let ps = partsSaid (length s) s (card .next) in
       let answer : Answer = record { outcome = Passed; sheet = sheet } in
       let z : Opened (card .settings) xs answer ys = record { answer = rw t; left = rw t } in
       let long = first-arrays s in
-      let a = lists-agree (card .settings) xs answer ys (long .0) (long .1) z .accepted refl (sequence (length s) s (card .next) sheet ys (omega arith) o) in
+      let a = lists-agree (card .settings) xs answer ys (long .0) (long .1) z .accepted refl (sequence (length s) s (card .next) sheet ys (omega arith) (omega arith) o) in
       let d : modelDecisions (length xs) (inserts 0 ps) (openedModel (card .settings)) ≡ accepted ps = sym (all-told-apart _ _ (a .answers)) in
       subst (Matches (opened .run .sheet) (opened .cells)) (appended (length xs) ps (openedModel (card .settings)) d) (a .matches)
 
   -- the settings and the design are what the cards say, and the rows are one build of them
-  pub stream-built : streamOf s xs .run .outcome ≡ Passed → Matches (streamOf s xs .run .sheet) (streamOf s xs .cells) (said s)
-  unfolding streamOf
-  stream-built = by (card .outcome) (settingsTest (card .settings) (length xs)) refl refl
-    where
-      refuse : AeroError → Ran
-      refuse e = stoppedAt 0 (Failed e) (blank (card .settings)) xs
-
-      by : (c d : Check) → card .outcome ≡ c → settingsTest (card .settings) (length xs) ≡ d → onCheck c refuse (onCheck d refuse opened) .run .outcome ≡ Passed
-          → Matches (onCheck c refuse (onCheck d refuse opened) .run .sheet) (onCheck c refuse (onCheck d refuse opened) .cells) (said s)
-      by (Failed e) d p q o = never refl o
-      by Passed (Failed e) p q o = never refl o
-      by Passed Passed p q o = built-from p q o
+  pub stream-built : outcome (streamOf s xs) ≡ Passed → Matches (streamOf s xs .run .sheet) (streamOf s xs .cells) (said s)
+  stream-built o =
+      let q = stream-passed s xs card refl o in
+      let e = stream-opened s xs card refl (q .0) (q .1) in
+      rw e (built-from (q .1) (ap outcome (sym e) ∙ o))
 
 -- the same of what `run_stream` answers and leaves
 pub run-built : (s : List ℕ) (xs : List Float) (r : Run) (ys : List Float) → Stopped (streamOf s xs) r ys → r .outcome ≡ Passed → Matches (r .sheet) ys (said s)

@@ -20,7 +20,7 @@ use Rattle.cards.specs.Fields.{eightBytes, pairAt, numbersAt}
 use Rattle.cards.specs.Cards.{columnsAt, finenessAt, settingsFields, settingsAt}
 use Rattle.card_run.specs.Run.{Ran, stoppedAt, noCard, streamFrom, streamOf}
 use Rattle.card_run.specs.Said.{partsSaid, said}
-use Rattle.card_run.proofs.Stream.{cards-end}
+use Rattle.card_run.proofs.Stream.{cards-end, outcome}
 use Rattle.card_run.proofs.Answers.{first-of-some}
 use Rattle.card_run.proofs.Built.{stream-built}
 
@@ -59,7 +59,7 @@ module _ (xs : List Float) where
   pub no-bytes-built : Matches (blank (noCard .settings)) xs (record { settings = noCard .settings; parts = [] })
   unfolding partsSaid
   no-bytes-built =
-      subst (λ (r : Ran). Matches (r .run .sheet) (r .cells) (said [])) no-bytes (stream-built [] xs (ap (λ (r : Ran). r .run .outcome) no-bytes))
+      subst (λ (r : Ran). Matches (r .run .sheet) (r .cells) (said [])) no-bytes (stream-built [] xs (ap outcome no-bytes))
 
   -- a card that says D = 1 and B = 1 and nothing else, `05`, comes to the same
   pub as-card : streamOf [] xs ≡ streamOf card-05 xs

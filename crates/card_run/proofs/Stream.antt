@@ -1,4 +1,5 @@
--- The part cards of a stream, card by card: the bound on their number in `partCards` never shows, and what a turn of the run comes to.
+-- The part cards of a stream, card by card: the bound on their number in `partCards` never shows, what a turn of the run comes to, and what it was where the run
+-- stops well.
 use mathlib.Core.Path.{_≡_, refl, sym, ap, _∙_}
 use mathlib.Core.Bool.{Bool, true, false, cond}
 use mathlib.Core.List.{List}
@@ -7,17 +8,18 @@ use native.Mathlib.Omega.{arith}
 use lib.ListN.{length}
 use lib.Dec.{ltb}
 use lib.Ieee.{Float}
-use borrow.Author.Tests.{le-ltb, ltb-true, lt-ltb}
+use borrow.Author.Tests.{le-ltb, ltb-true, ltb-false, lt-ltb}
 use Rattle.aero_error.specs.declared.AeroError.{AeroError}
 use Rattle.aero_error.specs.declared.Check.{Check}
 use Rattle.aero_error.specs.declared.Check.the-variants.{Passed, Failed}
 use Rattle.sheet_data.specs.declared.Part.{Part}
 use Rattle.sheet_data.specs.declared.Sheet.{Sheet}
 use Rattle.drag_sheet.specs.Calls.{decision}
+use Rattle.drag_sheet.proofs.Verdicts.{never}
 use Rattle.cards.specs.declared.PartRead.{PartRead}
 use Rattle.cards.specs.declared.PartRead.the-variants.{Read, Refused as NoPart}
 use Rattle.cards.specs.Cards.{partAt, part-bytes}
-use Rattle.cards.proofs.Extents.{partEnds, part-extent}
+use Rattle.cards.proofs.Extents.{part-extent}
 use Rattle.card_run.specs.Run.{Ran, stopped, onPart, onCheck, insertLast, sheetAfter, cellsAfter, partCard, partCards, allPartCards}
 
 -- a part card that is read takes a byte at least
@@ -113,3 +115,28 @@ module _ (s : List ℕ) (at : ℕ) (sheet : Sheet) (xs : List Float) where
     pub part-accepted : decision (insertLast sheet part) sheet (length xs) ≡ Passed
         → allPartCards s at sheet xs ≡ allPartCards s next (sheetThen sheet part) (cellsThen sheet part xs)
     part-accepted d = next-card s at sheet xs ∙ rw (lt-ltb at (length s) h, p, d)
+
+-- ---- a run that stops well
+
+abbrev pub outcome : Ran → Check
+outcome ran = ran .run .outcome
+
+-- the bytes end here, or a card is read and its part accepted
+pub data Turn (s : List ℕ) (at : ℕ) (sheet : Sheet) (xs : List Float) : Type 0 where
+  ended : length s ≤ at → Turn s at sheet xs
+  carded : (part : Part) (next : ℕ) → at < length s → partAt s at ≡ Read part next → decision (insertLast sheet part) sheet (length xs) ≡ Passed → Turn s at sheet xs
+
+pub turn : (s : List ℕ) (at : ℕ) (sheet : Sheet) (xs : List Float) → outcome (allPartCards s at sheet xs) ≡ Passed → Turn s at sheet xs
+turn s at sheet xs o = by-end (ltb at (length s)) refl
+  where
+    decided : (part : Part) (next : ℕ) → at < length s → partAt s at ≡ Read part next → (d : Check) → decision (insertLast sheet part) sheet (length xs) ≡ d → Turn s at sheet xs
+    decided part next h p Passed d = carded part next h p d
+    decided part next h p (Failed e) d = never (ap outcome (part-refused s at sheet xs part next h p e d)) o
+
+    read : at < length s → (r : PartRead) → partAt s at ≡ r → Turn s at sheet xs
+    read h (Read part next) p = decided part next h p (decision (insertLast sheet part) sheet (length xs)) refl
+    read h (NoPart e) p = never (ap outcome (card-refused s at sheet xs e h p)) o
+
+    by-end : (b : Bool) → ltb at (length s) ≡ b → Turn s at sheet xs
+    by-end true e = read (ltb-true at (length s) e) (partAt s at) refl
+    by-end false e = ended (ltb-false at (length s) e)
