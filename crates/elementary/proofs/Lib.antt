@@ -17,3 +17,4 @@ pub mod Unique
 pub mod RootBound
 pub mod Floor
 pub mod Cases
+pub mod Rounding

@@ -10,3 +10,4 @@ pub mod Tests
 pub mod Order
 pub mod Equal
 pub mod Nearest
+pub mod Distance

@@ -1,13 +1,13 @@
 -- What a table says at a Mach number that is finite and not negative is finite: one computed test over all segments of all tables, and one law that carries it to
 -- every such Mach number.
-use mathlib.Core.Path.{_≡_, refl, sym, ap, _∙_, subst}
-use mathlib.Core.Bool.{Bool, true, false, _&&_, cond, true≢false, false≢true}
+use mathlib.Core.Path.{_≡_, refl, sym, subst}
+use mathlib.Core.Bool.{Bool, true, false, _&&_, cond, false≢true}
 use mathlib.Core.List.{List, [], _∷_}
-use Prim.Native.Nat.{ℕ, _*_, _≤_, _<_}
-use native.Mathlib.Nat.{mul-right-comm, mul-le-mul-right, le-trans, le-of-eq, le-of-lt, le-of-mul-le-mul-right, zero-mul, not-suc-le-zero}
+use Prim.Native.Nat.{ℕ, _*_, _≤_}
+use native.Mathlib.Nat.{mul-right-comm, mul-le-mul-right, le-trans, le-of-eq, le-of-lt, le-of-mul-le-mul-right, zero-mul}
 use native.Mathlib.Omega.{arith}
 use lib.Dec.{T, leb, eqb, leb→le, ltb→lt, eqb→eq, lit<, lit≤}
-use lib.ListN.{length, getD}
+use lib.ListN.{drop}
 use lib.Ieee.{Float, nan, inf, fin, binary64, up, down, fits, ofBits, round, sum, neg, add, sub, div, lt, le, eq}
 use lib.Ieee.Scale.{finite}
 use lib.Ieee.Fits.{and-l, and-r, down-pos, add-fits}
@@ -21,10 +21,11 @@ use Rattle.elementary.proofs.Ranges.{reaches}
 use Rattle.stoney.specs.declared.StoneyNose.{StoneyNose}
 use Rattle.stoney.specs.declared.ValueAndSlope.{ValueAndSlope}
 use Rattle.stoney.specs.Tables.{noses}
-use Rattle.stoney.specs.Points.{Point, points, no-point, firstMach, range-within, every, holds-at}
-use Rattle.stoney.specs.Lookup.{line, short-of, walk, lookup, valueAndSlope}
-use Rattle.stoney.specs.Segments.{pointOf, count-is, from-1·2, at-limit, starts, below-limit}
-use Rattle.stoney.proofs.RunDown.{run-down}
+use Rattle.stoney.specs.Points.{Point, points, every, holds-at}
+use Rattle.stoney.specs.Lookup.{line, short-of, walk, valueAndSlope}
+use Rattle.stoney.specs.Segments.{below-limit}
+use Rattle.stoney.specs.BrokenLine.{start, corners}
+use Rattle.stoney.proofs.Corners.{from-start, by-corners}
 
 -- ---- the test
 
@@ -48,11 +49,7 @@ small-slopes [] = true
 small-slopes (p ∷ []) = small-point p
 small-slopes (p ∷ q ∷ rest) = small-point p && (within 8 ((q .drag ⊖ p .drag) ⊘ (q .mach ⊖ p .mach)) && small-slopes (q ∷ rest))
 
--- and so is the line by which a table that starts late is run down
-abbrev small-run : StoneyNose → Bool
-small-run nose = cond (from-1·2 nose) (small-slopes (at-limit ∷ pointOf nose 0 ∷ [])) true
-
-all-small : T (every (λ nose. small-slopes (points nose) && small-run nose) noses)
+all-small : T (every (λ nose. small-slopes (corners nose)) noses)
 unfolding points fits ofBits round sum neg add sub div lt le eq
 all-small = tt
 
@@ -126,34 +123,12 @@ module _ (M : Float) (f : T (finite M)) (z : T (0·0 ≼ M)) where
       })
       (λ e. walk-bounded q rest next)
 
-  -- from the first point on
-  from-first : (ps : List Point) → 0 < length ps → T (small-slopes ps) → short-of M (getD ps 0 no-point) ≡ false → Bounded (lookup ps M .value)
-  unfolding lookup
-  from-first [] h t e = absurd (not-suc-le-zero h)
-  from-first (p ∷ rest) h t e = rw e (walk-bounded p rest t)
-
-  -- below it: run down, or nothing
-  run : (nose : StoneyNose) → T (small-run nose) → (M ≺ firstMach nose) ≡ true → Bounded (valueAndSlope nose M .value)
-  unfolding walk
-  run nose t e = by (M ≺ 0·8) refl
-    where
-      late : (w : Bool) → from-1·2 nose ≡ w → (M ≺ 0·8) ≡ false → T (cond w (small-slopes (at-limit ∷ pointOf nose 0 ∷ [])) true) → Bounded (valueAndSlope nose M .value)
-      late true w l t =
-          let down = run-down nose M (subst T (sym w) tt) (reaches 0·8 M limit-positive f l) (subst T (sym e) tt) in
-          rw down (rw e at (walk-bounded at-limit (pointOf nose 0 ∷ []) t))
-      late false w l t = absurd (true≢false (sym e ∙ ap (λ (p : Point). M ≺ p .mach) (rw w at (starts nose)) ∙ l))
-
-      by : (b : Bool) → (M ≺ 0·8) ≡ b → Bounded (valueAndSlope nose M .value)
-      by true l = rw (below-limit nose M (subst T (sym l) tt)) zero-bounded
-      by false l = late (from-1·2 nose) refl l t
-
 pub table-bounded : (nose : StoneyNose) (M : Float) → T (finite M) → T (0·0 ≼ M) → Bounded (valueAndSlope nose M .value)
-unfolding valueAndSlope
-table-bounded nose M f z = by (M ≺ firstMach nose) refl
+table-bounded nose M f z = by (M ≺ 0·8) refl
   where
-    t : T (small-slopes (points nose) && small-run nose)
-    t = holds-at (λ nose. small-slopes (points nose) && small-run nose) all-small nose
+    t : T (small-slopes (start ∷ drop 1 (corners nose)))
+    t = subst (λ (ps : List Point). T (small-slopes ps)) (from-start nose) (holds-at (λ nose. small-slopes (corners nose)) all-small nose)
 
-    by : (b : Bool) → (M ≺ firstMach nose) ≡ b → Bounded (lookup (points nose) M .value)
-    by true e = run M f z nose (and-r (small-slopes (points nose)) (small-run nose) t) e
-    by false e = from-first M f z (points nose) (omega (arith, count-is nose, range-within nose .0)) (and-l (small-slopes (points nose)) (small-run nose) t) e
+    by : (b : Bool) → (M ≺ 0·8) ≡ b → Bounded (valueAndSlope nose M .value)
+    by true l = rw (below-limit nose M (subst T (sym l) tt)) zero-bounded
+    by false l = rw (by-corners nose M (reaches 0·8 M limit-positive f l)) (walk-bounded M f z start (drop 1 (corners nose)) t)

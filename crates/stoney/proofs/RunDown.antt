@@ -12,9 +12,9 @@ use Rattle.elementary.specs.Order.{lt-le}
 use Rattle.elementary.proofs.Same.{sub-unsigned, mul-unsigned, zero-plus}
 use Rattle.stoney.specs.declared.StoneyNose.{StoneyNose}
 use Rattle.stoney.specs.declared.StoneyNose.the-variants.{PowerQuarter, PowerHalf, PowerThreeQuarters, ParabolaHalf, ParabolaThreeQuarters, Parabola, Ellipsoid, LvHaack, VonKarman}
-use Rattle.stoney.specs.Points.{Point, points, firstMach}
+use Rattle.stoney.specs.Points.{Point, points, firstMach, from-1·2}
 use Rattle.stoney.specs.Lookup.{before, line, valueAndSlope}
-use Rattle.stoney.specs.Segments.{pointOf, from-1·2, at-limit, below-first}
+use Rattle.stoney.specs.Segments.{pointOf, at-limit, below-first}
 
 -- what the two first points have, by computing
 record Late (p : Point) : Type 0 where

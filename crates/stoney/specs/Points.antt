@@ -5,7 +5,7 @@ use mathlib.Core.Bool.{Bool, true, false, _&&_}
 use mathlib.Core.List.{List, [], _∷_, _++_, map}
 use Prim.Native.Nat.{ℕ, zero, suc, _+_, _≤_, _<_}
 use native.Mathlib.Nat.{le-of-suc-le-suc, not-suc-le-zero}
-use lib.Dec.{T, lit<, lit≤}
+use lib.Dec.{T, eqb, lit<, lit≤}
 use lib.ListN.{length, getD, take, drop}
 use lib.Seq.{getD-take, getD-drop}
 use lib.Ieee.{Float, binary64, round, lt}
@@ -97,6 +97,10 @@ range-within VonKarman = (lit< tt, lit≤ tt)
 
 abbrev pub firstMach : StoneyNose → Float
 firstMach nose = getD (points nose) 0 no-point .mach
+
+-- whether the table starts at Mach 1.2: those of the wind tunnel do
+abbrev pub from-1·2 : StoneyNose → Bool
+from-1·2 nose = eqb (getD (tabled nose) 0 (0, 0) .0) 1200
 
 -- ---- "within each nose Mach strictly rises": one computed test over all nine tables, and one law that carries it to each entry
 

@@ -24,7 +24,7 @@ use Rattle.stoney.specs.declared.StoneyNose.{StoneyNose}
 use Rattle.stoney.specs.declared.StoneyNose.the-variants.{PowerQuarter, PowerHalf, PowerThreeQuarters, ParabolaHalf, ParabolaThreeQuarters, Parabola, Ellipsoid, LvHaack, VonKarman}
 use Rattle.stoney.specs.declared.ValueAndSlope.{ValueAndSlope}
 use Rattle.stoney.specs.Tables.{noses}
-use Rattle.stoney.specs.Points.{Point, points, no-point, rangeOf, range-within, firstMach, every, holds-at, rises, nose-rises, tail-rises, positive-at, rises-at}
+use Rattle.stoney.specs.Points.{Point, points, no-point, rangeOf, range-within, firstMach, from-1·2, every, holds-at, rises, nose-rises, tail-rises, positive-at, rises-at}
 use Rattle.stoney.specs.Lookup.{SUBSONIC-MACH-LIMIT, before, line, held, short-of, walk, lookup, valueAndSlope}
 
 -- ---- the points of a nose
@@ -192,18 +192,6 @@ unfolding valueAndSlope
 below-first nose M u = before-all M (points nose) (omega (arith, count-is nose, range-within nose .0)) u
 
 -- ---- below the first point
-
--- the noses of the wind tunnel, whose tables start at Mach 1.2
-abbrev pub from-1·2 : StoneyNose → Bool
-from-1·2 PowerQuarter = true
-from-1·2 PowerHalf = false
-from-1·2 PowerThreeQuarters = false
-from-1·2 ParabolaHalf = false
-from-1·2 ParabolaThreeQuarters = false
-from-1·2 Parabola = false
-from-1·2 Ellipsoid = true
-from-1·2 LvHaack = false
-from-1·2 VonKarman = false
 
 abbrev pub 1·2 : Float
 1·2 = round binary64 false 12 10

@@ -1,0 +1,249 @@
+-- How far a rounded result is from the exact one. A result below 1 is within 2 ^ -54 of the exact sum, difference or product (`Rounded`): of a number below 1
+-- binary64 keeps every digit down to 2 ^ -53, and rounds to the nearest. Numbers are counted in units of 2 ^ -1074, whose order is that of the floats (`less-than`).
+use mathlib.Core.Path.{_≡_, refl, sym, ap, _∙_, subst}
+use mathlib.Core.Bool.{Bool, true, false, not, _&&_, cond, true≢false, false≢true}
+use Prim.Native.Nat.{ℕ, zero, suc, _+_, _-_, _*_, _/_, _%_, _^_, _≤_, _<_, compare, Ordering, Ordering·lt, Ordering·eq, Ordering·gt}
+use native.Mathlib.Nat.{le-trans, le-of-eq, le-of-lt, lt-of-lt-of-le, lt-of-le-of-lt, mul-comm, mul-assoc, mul-left-comm, mul-right-comm, mul-one, one-mul, zero-mul, zero-div, add-mul, mul-sub, mul-pos, mul-le-mul-right, mul-lt-mul-of-pos-right, le-of-mul-le-mul-right, mul-div-cancel, div-add-mod', div-lt-iff-lt-mul, mod-lt}
+use native.Mathlib.Omega.{arith}
+use lib.IntN.{ℤ}
+use lib.Dec.{T, ltb, eqb, isLe, isEq, ltb→lt, leb→le, nleb→lt, eqb→eq, lit<, lit≤}
+use lib.Pow.{pow-pos, pow-mono, pow-add}
+use lib.Ieee.{Float, nan, inf, fin, binary64, up, down, unlike, size, nearest, round, sum, add, sub, mul, neg, lt, fits}
+use lib.Ieee.Digits.{size-le}
+use lib.Ieee.Exact.{HasValue, units-val}
+use lib.Ieee.Fits.{down-pos, round-is}
+use lib.Ieee.Nearest.{closest}
+use lib.Ieee.Order.{drop, kept, transfer}
+use lib.Ieee.Positive.{positive}
+use lib.Ieee.Scale.{round-same}
+use borrow.Author.Tests.{ltb-true, ltb-false, lt-ltb, le-ltb}
+use Rattle.elementary.specs.Arithmetic.{_⊕_, _⊖_, _⊗_, _≺_}
+use Rattle.elementary.specs.Nearest.{unitsOf}
+use Rattle.elementary.specs.Distance.{two^-, Counted, Apart}
+use Rattle.elementary.proofs.Bits.{held, in-units}
+
+-- ---- apart, times a number and without it
+
+pub apart-times : (k : ℕ) {e x y : ℕ} → Apart e x y → Apart (e * k) (x * k) (y * k)
+apart-times k {e} {x} {y} h = record {
+  up = le-trans (mul-le-mul-right k (h .up)) (le-of-eq (add-mul y e k));
+  down = le-trans (mul-le-mul-right k (h .down)) (le-of-eq (add-mul x e k));
+}
+
+pub apart-cancel : (k e x y : ℕ) → 0 < k → Apart (e * k) (x * k) (y * k) → Apart e x y
+apart-cancel k e x y K h = record {
+  up = le-of-mul-le-mul-right (le-trans (h .up) (le-of-eq (sym (add-mul y e k)))) K;
+  down = le-of-mul-le-mul-right (le-trans (h .down) (le-of-eq (sym (add-mul x e k)))) K;
+}
+
+pub apart-more : {e f x y : ℕ} → e ≤ f → Apart e x y → Apart f x y
+apart-more l h = record { up = omega (arith, h .up); down = omega (arith, h .down) }
+
+-- ---- a number in units
+
+pub units-are : (x : Float) (s : Bool) (u : ℕ) → HasValue x s u (two^- 0) → unitsOf x ≡ u
+units-are nan s u v = absurd v
+units-are (inf t) s u v = absurd v
+units-are (fin t m e) s u v = ap (λ (a : ℕ). a / down e) (v .1) ∙ mul-div-cancel u (down-pos e)
+
+counted-by : (x : Float) (s : Bool) (u : ℕ) → HasValue x s u (two^- 0) → Counted s x
+counted-by x s u v = rw (units-are x s u v) v
+
+pub no-units : (e : ℤ) → 0 * up e * 2 ^ 1074 / down e ≡ 0
+no-units e = rw (zero-mul (up e), zero-mul (2 ^ 1074)) (zero-div (down e))
+
+-- every finite number that binary64 holds is a whole number of units
+pub held-counted : (s : Bool) (m : ℕ) (e : ℤ) → T (fits binary64 (fin s m e)) → Counted s (fin s m e)
+held-counted s zero e h = (refl, rw (no-units e, zero-mul (up e), zero-mul (down e)) (zero-mul (two^- 0)))
+held-counted s (suc m) e h = (refl, in-units m e (held s m e h) .exact)
+
+pub counted : (x : Float) → T (positive x) → T (fits binary64 x) → Counted false x
+counted nan p h = absurd p
+counted (inf s) p h = absurd p
+counted (fin true m e) p h = absurd p
+counted (fin false m e) p h = held-counted false m e h
+
+-- the same as a test that computes
+abbrev pub counts : Float → Bool
+counts nan = false
+counts (inf s) = false
+counts (fin s m e) = not s && eqb (m * up e * two^- 0) (unitsOf (fin s m e) * down e)
+
+pub counts-is : (x : Float) → T (counts x) → Counted false x
+counts-is nan t = absurd t
+counts-is (inf s) t = absurd t
+counts-is (fin true m e) t = absurd t
+counts-is (fin false m e) t = (refl, eqb→eq (m * up e * two^- 0) (unitsOf (fin false m e) * down e) t)
+
+-- ---- the order is that of the units
+
+ltb-times : (a b k : ℕ) → 0 < k → ltb (a * k) (b * k) ≡ ltb a b
+ltb-times a b k K = go (ltb a b) refl
+  where
+    go : (t : Bool) → ltb a b ≡ t → ltb (a * k) (b * k) ≡ t
+    go true e = lt-ltb (a * k) (b * k) (mul-lt-mul-of-pos-right (ltb-true a b e) K)
+    go false e = le-ltb (a * k) (b * k) (mul-le-mul-right k (ltb-false a b e))
+
+pub less-than : (x y : Float) → Counted false x → Counted false y → (x ≺ y) ≡ ltb (unitsOf x) (unitsOf y)
+unfolding lt
+less-than nan y h k = absurd h
+less-than (inf s) y h k = absurd h
+less-than (fin true m e) y h k = absurd (true≢false (h .0))
+less-than (fin false m e) nan h k = absurd k
+less-than (fin false m e) (inf s) h k = absurd k
+less-than (fin false m e) (fin true n d) h k = absurd (true≢false (k .0))
+less-than (fin false m e) (fin false n d) h k = between (m * up e) (n * up d) (down e) (down d) (unitsOf (fin false m e)) (unitsOf (fin false n d)) (two^- 0) (down-pos e) (down-pos d) (pow-pos 1074) (h .1) (k .1)
+  where
+    between : (a b c d x y w : ℕ) → 0 < c → 0 < d → 0 < w → a * w ≡ x * c → b * w ≡ y * d → ltb (a * d) (b * c) ≡ ltb x y
+    between a b c d x y w C D W p q =
+        let l : a * d * w ≡ x * (c * d) = mul-right-comm a d w ∙ ap (λ (z : ℕ). z * d) p ∙ mul-assoc x c d in
+        let r : b * c * w ≡ y * (c * d) = mul-right-comm b c w ∙ ap (λ (z : ℕ). z * c) q ∙ mul-assoc y d c ∙ ap (λ (z : ℕ). y * z) (mul-comm d c) in
+        sym (ltb-times (a * d) (b * c) w W) ∙ rw (l, r) (ltb-times x y (c * d) (mul-pos C D))
+
+-- ---- the nearest whole number is at most a half away
+
+half : (w r b : ℕ) (o : Ordering) → r < b → (T (isLe o) → r * 2 ≤ b) → (T (not (isLe o)) → b < r * 2) → (T (isEq o) → r * 2 ≡ b) → Apart b (2 * (nearest w o * b)) (2 * (w * b + r))
+half w r b Ordering·lt R le gt eq = let h : r * 2 ≤ b = le tt in record { up = omega arith; down = omega arith }
+half w r b Ordering·eq R le gt eq = tie (w % 2) (eq tt) (omega arith)
+  where
+    tie : (t : ℕ) → r * 2 ≡ b → t ≤ 1 → Apart b (2 * ((w + t) * b)) (2 * (w * b + r))
+    tie zero e l = record { up = omega arith; down = omega arith }
+    tie (suc zero) e l = let z = add-mul w 1 b in record { up = omega arith; down = omega arith }
+    tie (suc (suc t)) e l = absurd (omega arith)
+half w r b Ordering·gt R le gt eq =
+    let h : b < r * 2 = gt tt in
+    let z : suc w * b ≡ w * b + b = omega arith in
+    record { up = omega arith; down = omega arith }
+
+closest-half : (a b : ℕ) → 0 < b → Apart b (2 * (closest a b * b)) (2 * a)
+closest-half a b B =
+    subst (λ (x : ℕ). Apart b (2 * (closest a b * b)) (2 * x)) (div-add-mod' a b)
+    (half (a / b) (a % b) b (compare (a % b * 2) b) (mod-lt a B) (leb→le (a % b * 2) b) (nleb→lt (a % b * 2) b) (eqb→eq (a % b * 2) b))
+
+-- n / c has at most p + j + 1 digits before the point; of these p are kept: at most 2 ^ j is lost
+kept-apart : (p j n c : ℕ) → 0 < c → n < 2 ^ (p + suc j) * c → Apart (2 ^ j * c) (kept p n c * 2 ^ drop p n c * c) n
+kept-apart p j n c C h =
+    let k = drop p n c in
+    let digits : size (n / c) ≤ p + suc j = size-le (n / c) (p + suc j) (div-lt-iff-lt-mul C .1 h) in
+    let near = closest-half n (c * 2 ^ k) (mul-pos C (pow-pos k)) in
+    let e : kept p n c * (c * 2 ^ k) ≡ kept p n c * 2 ^ k * c = ap (λ (x : ℕ). kept p n c * x) (mul-comm c (2 ^ k)) ∙ sym (mul-assoc (kept p n c) (2 ^ k) c) in
+    let l : c * 2 ^ k ≤ 2 * 2 ^ j * c = le-trans (le-of-eq (mul-comm c (2 ^ k))) (mul-le-mul-right c (le-trans (pow-mono {i = k} {j = 1 + j} (omega arith)) (le-of-eq (pow-add 2 1 j)))) in
+    let t = mul-assoc 2 (2 ^ j) c in
+    record { up = omega (arith, near .up); down = omega (arith, near .down) }
+
+-- ---- a rounded fraction below 1
+
+-- x is a / b units with the sign s, rounded
+pub record Rounded (x : Float) (s : Bool) (a b : ℕ) : Type 0 where
+  pub number : Counted s x
+  pub apart : Apart (two^- 54 * b) (unitsOf x * b) a
+
+-- what is near a number below w is at most 2 w
+under : (g n c w e : ℕ) → 0 < c → e ≤ w → n < w * c → g * c ≤ n + e * c → g ≤ 2 * w
+under g n c w e C E h k =
+    let z : (w + e) * c ≡ w * c + e * c = add-mul w e c in
+    let l : g ≤ w + e = le-of-mul-le-mul-right {k = c} (omega arith) C in
+    omega arith
+
+rounded : (s : Bool) (a b : ℕ) → 0 < b → a < b * two^- 0 → Rounded (round binary64 s a (b * two^- 0)) s a b
+rounded s a b B h =
+    let one = two^- 0 in
+    let c = b * one in
+    let n = a * one in
+    let C = mul-pos B (pow-pos 1074) in
+    let l : n < one * c = lt-of-lt-of-le (mul-lt-mul-of-pos-right h (pow-pos 1074)) (le-of-eq (mul-comm c one)) in
+    let g = kept 53 n c * 2 ^ drop 53 n c in
+    let near : Apart (two^- 54 * c) (g * c) n = kept-apart 53 1020 n c C l in
+    let v : HasValue (round binary64 s a c) s g one =
+    rw (round-is binary64 s a c) (units-val binary64 s (kept 53 n c) (drop 53 n c) (lt-of-le-of-lt (under g n c one (two^- 54) C (lit≤ tt) l (near .up)) (lit< tt))) in
+    let off : Apart (two^- 54 * b) (g * b) a = apart-cancel one (two^- 54 * b) (g * b) a (pow-pos 1074) (rw (mul-assoc (two^- 54) b one, mul-assoc g b one) near) in
+    record { number = counted-by (round binary64 s a c) s g v; apart = rw (units-are (round binary64 s a c) s g v) off }
+
+-- an operation's own fraction n / d is a / (b × 2 ^ 1074)
+module _ (s : Bool) (n d a b : ℕ) (D : 0 < d) (B : 0 < b) (e : n * (b * two^- 0) ≡ a * d) (h : a < b * two^- 0) where
+  of-fraction : Rounded (round binary64 s n d) s a b
+  of-fraction = rw (round-same binary64 s n d a (b * two^- 0) D (mul-pos B (pow-pos 1074)) e) (rounded s a b B h)
+
+-- ---- the product of a fraction and a number in units
+
+pub product : (x y : Float) (t : Bool) (a b : ℕ) → 0 < b → HasValue x t a b → Counted false y → a * unitsOf y < b * two^- 0 → Rounded (x ⊗ y) t (a * unitsOf y) b
+unfolding mul
+product nan y t a b B h k l = absurd h
+product (inf s) y t a b B h k l = absurd h
+product (fin s m e) nan t a b B h k l = absurd k
+product (fin s m e) (inf u) t a b B h k l = absurd k
+product (fin s m e) (fin u n d) t a b B h k l =
+    rw (h .0, k .0, alike t)
+    (of-fraction t (m * up e * (n * up d)) (down e * down d) (a * unitsOf (fin u n d)) b (mul-pos (down-pos e) (down-pos d)) B
+    (crossed (m * up e) (n * up d) (down e) (down d) a b (unitsOf (fin u n d)) (two^- 0) (h .1) (k .1)) l)
+  where
+    alike : (t : Bool) → unlike t false ≡ t
+    alike true = refl
+    alike false = refl
+
+    crossed : (x y c d a b k w : ℕ) → x * b ≡ a * c → y * w ≡ k * d → x * y * (b * w) ≡ a * k * (c * d)
+    crossed x y c d a b k w p q =
+        let l : x * y * (b * w) ≡ x * b * (y * w) = simp (mul-assoc, mul-comm, mul-left-comm) in
+        let r : a * k * (c * d) ≡ a * c * (k * d) = simp (mul-assoc, mul-comm, mul-left-comm) in
+        l ∙ rw (p, q) (sym r)
+
+-- ---- sums and differences
+
+-- x / c and y / d are a and k units
+module _ (x y c d a k w : ℕ) (p : x * w ≡ a * c) (q : y * w ≡ k * d) where
+  first : x * d * (1 * w) ≡ a * (c * d)
+  first = rw (one-mul w, mul-right-comm x d w, p) (mul-assoc a c d)
+
+  second : y * c * (1 * w) ≡ k * (c * d)
+  second = rw (one-mul w, mul-right-comm y c w, q) (mul-assoc k d c ∙ ap (λ (z : ℕ). k * z) (mul-comm d c))
+
+  added : (x * d + y * c) * (1 * w) ≡ (a + k) * (c * d)
+  added = add-mul (x * d) (y * c) (1 * w) ∙ rw (first, second) (sym (add-mul a k (c * d)))
+
+  taken : (x * d - y * c) * (1 * w) ≡ (a - k) * (c * d)
+  taken =
+      mul-comm (x * d - y * c) (1 * w)
+      ∙ mul-sub (1 * w) (x * d) (y * c)
+      ∙ rw (mul-comm (1 * w) (x * d), mul-comm (1 * w) (y * c), first, second) (sym (mul-comm (a - k) (c * d) ∙ mul-sub (c * d) a k ∙ rw (mul-comm (c * d) a, mul-comm (c * d) k)))
+
+whole : {x : Float} {a : ℕ} → Rounded x false a 1 → Counted false x × Apart (two^- 54) (unitsOf x) a
+whole {x} r = (r .number, rw (mul-one (unitsOf x)) at (r .apart))
+
+pub plus : (x y : Float) → Counted false x → Counted false y → unitsOf x + unitsOf y < two^- 0 → Counted false (x ⊕ y) × Apart (two^- 54) (unitsOf (x ⊕ y)) (unitsOf x + unitsOf y)
+unfolding add sum
+plus nan y h k l = absurd h
+plus (inf s) y h k l = absurd h
+plus (fin s m e) nan h k l = absurd k
+plus (fin s m e) (inf u) h k l = absurd k
+plus (fin true m e) (fin u n d) h k l = absurd (true≢false (h .0))
+plus (fin false m e) (fin true n d) h k l = absurd (true≢false (k .0))
+plus (fin false m e) (fin false n d) h k l =
+    whole
+    (of-fraction false (m * up e * down d + n * up d * down e) (down e * down d) (unitsOf (fin false m e) + unitsOf (fin false n d)) 1 (mul-pos (down-pos e) (down-pos d)) (lit< tt)
+    (added (m * up e) (n * up d) (down e) (down d) (unitsOf (fin false m e)) (unitsOf (fin false n d)) (two^- 0) (h .1) (k .1)) (rw (one-mul (two^- 0)) l))
+
+-- with a negative number that is at most as large
+pub less : (x y : Float) → Counted false x → Counted true y → unitsOf y ≤ unitsOf x → unitsOf x - unitsOf y < two^- 0 → Counted false (x ⊕ y) × Apart (two^- 54) (unitsOf (x ⊕ y)) (unitsOf x - unitsOf y)
+unfolding add sum
+less nan y h k o l = absurd h
+less (inf s) y h k o l = absurd h
+less (fin s m e) nan h k o l = absurd k
+less (fin s m e) (inf u) h k o l = absurd k
+less (fin true m e) (fin u n d) h k o l = absurd (true≢false (h .0))
+less (fin false m e) (fin false n d) h k o l = absurd (false≢true (k .0))
+less (fin false m e) (fin true n d) h k o l =
+    let a = m * up e in
+    let b = n * up d in
+    let one = two^- 0 in
+    let order : b * down e ≤ a * down d = transfer b a (down d) (down e) (unitsOf (fin true n d)) (unitsOf (fin false m e)) one one (pow-pos 1074) (pow-pos 1074) (k .1) (h .1) (mul-le-mul-right one o) in
+    rw (le-ltb (a * down d) (b * down e) order)
+    (whole
+    (of-fraction false (a * down d - b * down e) (down e * down d) (unitsOf (fin false m e) - unitsOf (fin true n d)) 1 (mul-pos (down-pos e) (down-pos d)) (lit< tt)
+    (taken a b (down e) (down d) (unitsOf (fin false m e)) (unitsOf (fin true n d)) one (h .1) (k .1)) (rw (one-mul one) l)))
+
+pub minus : (x y : Float) → Counted false x → Counted false y → unitsOf y ≤ unitsOf x → unitsOf x - unitsOf y < two^- 0 → Counted false (x ⊖ y) × Apart (two^- 54) (unitsOf (x ⊖ y)) (unitsOf x - unitsOf y)
+unfolding sub neg
+minus x nan h k o l = absurd k
+minus x (inf s) h k o l = absurd k
+minus x (fin true n d) h k o l = absurd (true≢false (k .0))
+minus x (fin false n d) h k o l = less x (fin true n d) h (refl, k .1) o l
