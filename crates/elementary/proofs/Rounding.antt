@@ -1,12 +1,12 @@
 -- How far a rounded result is from the exact one. A result below 1 is within 2 ^ -54 of the exact sum, difference or product (`Rounded`): of a number below 1
 -- binary64 keeps every digit down to 2 ^ -53, and rounds to the nearest. Numbers are counted in units of 2 ^ -1074, whose order is that of the floats (`less-than`).
 use mathlib.Core.Path.{_≡_, refl, sym, ap, _∙_, subst}
-use mathlib.Core.Bool.{Bool, true, false, not, _&&_, cond, true≢false, false≢true}
+use mathlib.Core.Bool.{Bool, true, false, not, _&&_, true≢false, false≢true}
 use Prim.Native.Nat.{ℕ, zero, suc, _+_, _-_, _*_, _/_, _%_, _^_, _≤_, _<_, compare, Ordering, Ordering·lt, Ordering·eq, Ordering·gt}
-use native.Mathlib.Nat.{le-trans, le-of-eq, le-of-lt, lt-of-lt-of-le, lt-of-le-of-lt, mul-comm, mul-assoc, mul-left-comm, mul-right-comm, mul-one, one-mul, zero-mul, zero-div, add-mul, mul-sub, mul-pos, mul-le-mul-right, mul-lt-mul-of-pos-right, le-of-mul-le-mul-right, mul-div-cancel, div-add-mod', div-lt-iff-lt-mul, mod-lt}
+use native.Mathlib.Nat.{le-trans, le-antisymm, le-of-eq, lt-of-lt-of-le, lt-of-le-of-lt, mul-comm, mul-assoc, mul-left-comm, mul-right-comm, mul-one, one-mul, zero-mul, zero-div, add-mul, mul-sub, mul-pos, mul-le-mul-right, mul-lt-mul-of-pos-right, lt-of-mul-lt-mul-right, le-of-mul-le-mul-right, mul-div-cancel, div-add-mod', div-lt-iff-lt-mul, mod-lt}
 use native.Mathlib.Omega.{arith}
 use lib.IntN.{ℤ}
-use lib.Dec.{T, ltb, eqb, isLe, isEq, ltb→lt, leb→le, nleb→lt, eqb→eq, lit<, lit≤}
+use lib.Dec.{T, ltb, eqb, isLe, isEq, leb→le, nleb→lt, eqb→eq, lit<, lit≤}
 use lib.Pow.{pow-pos, pow-mono, pow-add}
 use lib.Ieee.{Float, nan, inf, fin, binary64, up, down, unlike, size, nearest, round, sum, add, sub, mul, neg, lt, fits}
 use lib.Ieee.Digits.{size-le}
@@ -15,11 +15,10 @@ use lib.Ieee.Fits.{down-pos, round-is}
 use lib.Ieee.Nearest.{closest}
 use lib.Ieee.Order.{drop, kept, transfer}
 use lib.Ieee.Positive.{positive}
-use lib.Ieee.Scale.{round-same}
 use borrow.Author.Tests.{ltb-true, ltb-false, lt-ltb, le-ltb}
 use Rattle.elementary.specs.Arithmetic.{_⊕_, _⊖_, _⊗_, _≺_}
 use Rattle.elementary.specs.Nearest.{unitsOf}
-use Rattle.elementary.specs.Distance.{two^-, Counted, Apart}
+use Rattle.elementary.specs.Distance.{two^-, Counted, Fraction, Apart, OffBy}
 use Rattle.elementary.proofs.Bits.{held, in-units}
 
 -- ---- apart, times a number and without it
@@ -145,66 +144,70 @@ under g n c w e C E h k =
     let l : g ≤ w + e = le-of-mul-le-mul-right {k = c} (omega arith) C in
     omega arith
 
-rounded : (s : Bool) (a b : ℕ) → 0 < b → a < b * two^- 0 → Rounded (round binary64 s a (b * two^- 0)) s a b
-rounded s a b B h =
+pub rounded : (s : Bool) (n d : ℕ) → 0 < d → n < d → Rounded (round binary64 s n d) s (n * two^- 0) d
+rounded s n d D h =
     let one = two^- 0 in
-    let c = b * one in
-    let n = a * one in
-    let C = mul-pos B (pow-pos 1074) in
-    let l : n < one * c = lt-of-lt-of-le (mul-lt-mul-of-pos-right h (pow-pos 1074)) (le-of-eq (mul-comm c one)) in
-    let g = kept 53 n c * 2 ^ drop 53 n c in
-    let near : Apart (two^- 54 * c) (g * c) n = kept-apart 53 1020 n c C l in
-    let v : HasValue (round binary64 s a c) s g one =
-    rw (round-is binary64 s a c) (units-val binary64 s (kept 53 n c) (drop 53 n c) (lt-of-le-of-lt (under g n c one (two^- 54) C (lit≤ tt) l (near .up)) (lit< tt))) in
-    let off : Apart (two^- 54 * b) (g * b) a = apart-cancel one (two^- 54 * b) (g * b) a (pow-pos 1074) (rw (mul-assoc (two^- 54) b one, mul-assoc g b one) near) in
-    record { number = counted-by (round binary64 s a c) s g v; apart = rw (units-are (round binary64 s a c) s g v) off }
+    let a = n * one in
+    let x = round binary64 s n d in
+    let l : a < one * d = lt-of-lt-of-le (mul-lt-mul-of-pos-right h (pow-pos 1074)) (le-of-eq (mul-comm d one)) in
+    let g = kept 53 a d * 2 ^ drop 53 a d in
+    let near : Apart (two^- 54 * d) (g * d) a = kept-apart 53 1020 a d D l in
+    let fine = lt-of-le-of-lt (under g a d one (two^- 54) D (lit≤ tt) l (near .up)) (lit< tt) in
+    let v : HasValue x s g one = rw (round-is binary64 s n d) (units-val binary64 s (kept 53 a d) (drop 53 a d) fine) in
+    record { number = counted-by x s g v; apart = rw (units-are x s g v) near }
 
--- an operation's own fraction n / d is a / (b × 2 ^ 1074)
-module _ (s : Bool) (n d a b : ℕ) (D : 0 < d) (B : 0 < b) (e : n * (b * two^- 0) ≡ a * d) (h : a < b * two^- 0) where
+-- the same where n / d is a / b units
+module _ (s : Bool) (n d a b : ℕ) (D : 0 < d) (e : n * two^- 0 * b ≡ a * d) (h : a < b * two^- 0) where
   of-fraction : Rounded (round binary64 s n d) s a b
-  of-fraction = rw (round-same binary64 s n d a (b * two^- 0) D (mul-pos B (pow-pos 1074)) e) (rounded s a b B h)
+  of-fraction =
+      let one = two^- 0 in
+      let u = unitsOf (round binary64 s n d) in
+      let l : n * (one * b) < d * (one * b) =
+      lt-of-le-of-lt (le-of-eq (sym (mul-assoc n one b) ∙ e)) (lt-of-lt-of-le (mul-lt-mul-of-pos-right h D) (le-of-eq (mul-comm (b * one) d ∙ ap (λ (z : ℕ). d * z) (mul-comm b one)))) in
+      let r = rounded s n d D (lt-of-mul-lt-mul-right (one * b) l) in
+      record { number = r .number; apart = apart-cancel d (two^- 54 * b) (u * b) a D (rw (mul-right-comm (two^- 54) b d, mul-right-comm u b d, ← e) (apart-times b (r .apart))) }
 
 -- ---- the product of a fraction and a number in units
 
-pub product : (x y : Float) (t : Bool) (a b : ℕ) → 0 < b → HasValue x t a b → Counted false y → a * unitsOf y < b * two^- 0 → Rounded (x ⊗ y) t (a * unitsOf y) b
+pub product : (x y : Float) (t : Bool) (a b : ℕ) → HasValue x t a b → Counted false y → a * unitsOf y < b * two^- 0 → Rounded (x ⊗ y) t (a * unitsOf y) b
 unfolding mul
-product nan y t a b B h k l = absurd h
-product (inf s) y t a b B h k l = absurd h
-product (fin s m e) nan t a b B h k l = absurd k
-product (fin s m e) (inf u) t a b B h k l = absurd k
-product (fin s m e) (fin u n d) t a b B h k l =
+product nan y t a b h k l = absurd h
+product (inf s) y t a b h k l = absurd h
+product (fin s m e) nan t a b h k l = absurd k
+product (fin s m e) (inf u) t a b h k l = absurd k
+product (fin s m e) (fin u n d) t a b h k l =
     rw (h .0, k .0, alike t)
-    (of-fraction t (m * up e * (n * up d)) (down e * down d) (a * unitsOf (fin u n d)) b (mul-pos (down-pos e) (down-pos d)) B
+    (of-fraction t (m * up e * (n * up d)) (down e * down d) (a * unitsOf (fin u n d)) b (mul-pos (down-pos e) (down-pos d))
     (crossed (m * up e) (n * up d) (down e) (down d) a b (unitsOf (fin u n d)) (two^- 0) (h .1) (k .1)) l)
   where
     alike : (t : Bool) → unlike t false ≡ t
     alike true = refl
     alike false = refl
 
-    crossed : (x y c d a b k w : ℕ) → x * b ≡ a * c → y * w ≡ k * d → x * y * (b * w) ≡ a * k * (c * d)
+    crossed : (x y c d a b k w : ℕ) → x * b ≡ a * c → y * w ≡ k * d → x * y * w * b ≡ a * k * (c * d)
     crossed x y c d a b k w p q =
-        let l : x * y * (b * w) ≡ x * b * (y * w) = simp (mul-assoc, mul-comm, mul-left-comm) in
+        let l : x * y * w * b ≡ x * b * (y * w) = simp (mul-assoc, mul-comm, mul-left-comm) in
         let r : a * k * (c * d) ≡ a * c * (k * d) = simp (mul-assoc, mul-comm, mul-left-comm) in
         l ∙ rw (p, q) (sym r)
 
 -- ---- sums and differences
 
+less-times : (a b k : ℕ) → (a - b) * k ≡ a * k - b * k
+less-times a b k = mul-comm (a - b) k ∙ mul-sub k a b ∙ rw (mul-comm k a, mul-comm k b)
+
 -- x / c and y / d are a and k units
 module _ (x y c d a k w : ℕ) (p : x * w ≡ a * c) (q : y * w ≡ k * d) where
-  first : x * d * (1 * w) ≡ a * (c * d)
-  first = rw (one-mul w, mul-right-comm x d w, p) (mul-assoc a c d)
+  first : x * d * w ≡ a * (c * d)
+  first = mul-right-comm x d w ∙ ap (λ (z : ℕ). z * d) p ∙ mul-assoc a c d
 
-  second : y * c * (1 * w) ≡ k * (c * d)
-  second = rw (one-mul w, mul-right-comm y c w, q) (mul-assoc k d c ∙ ap (λ (z : ℕ). k * z) (mul-comm d c))
+  second : y * c * w ≡ k * (c * d)
+  second = mul-right-comm y c w ∙ ap (λ (z : ℕ). z * c) q ∙ mul-assoc k d c ∙ ap (λ (z : ℕ). k * z) (mul-comm d c)
 
-  added : (x * d + y * c) * (1 * w) ≡ (a + k) * (c * d)
-  added = add-mul (x * d) (y * c) (1 * w) ∙ rw (first, second) (sym (add-mul a k (c * d)))
+  added : (x * d + y * c) * w * 1 ≡ (a + k) * (c * d)
+  added = mul-one ((x * d + y * c) * w) ∙ add-mul (x * d) (y * c) w ∙ rw (first, second) (sym (add-mul a k (c * d)))
 
-  taken : (x * d - y * c) * (1 * w) ≡ (a - k) * (c * d)
-  taken =
-      mul-comm (x * d - y * c) (1 * w)
-      ∙ mul-sub (1 * w) (x * d) (y * c)
-      ∙ rw (mul-comm (1 * w) (x * d), mul-comm (1 * w) (y * c), first, second) (sym (mul-comm (a - k) (c * d) ∙ mul-sub (c * d) a k ∙ rw (mul-comm (c * d) a, mul-comm (c * d) k)))
+  taken : (x * d - y * c) * w * 1 ≡ (a - k) * (c * d)
+  taken = mul-one ((x * d - y * c) * w) ∙ less-times (x * d) (y * c) w ∙ rw (first, second) (sym (less-times a k (c * d)))
 
 whole : {x : Float} {a : ℕ} → Rounded x false a 1 → Counted false x × Apart (two^- 54) (unitsOf x) a
 whole {x} r = (r .number, rw (mul-one (unitsOf x)) at (r .apart))
@@ -219,7 +222,7 @@ plus (fin true m e) (fin u n d) h k l = absurd (true≢false (h .0))
 plus (fin false m e) (fin true n d) h k l = absurd (true≢false (k .0))
 plus (fin false m e) (fin false n d) h k l =
     whole
-    (of-fraction false (m * up e * down d + n * up d * down e) (down e * down d) (unitsOf (fin false m e) + unitsOf (fin false n d)) 1 (mul-pos (down-pos e) (down-pos d)) (lit< tt)
+    (of-fraction false (m * up e * down d + n * up d * down e) (down e * down d) (unitsOf (fin false m e) + unitsOf (fin false n d)) 1 (mul-pos (down-pos e) (down-pos d))
     (added (m * up e) (n * up d) (down e) (down d) (unitsOf (fin false m e)) (unitsOf (fin false n d)) (two^- 0) (h .1) (k .1)) (rw (one-mul (two^- 0)) l))
 
 -- with a negative number that is at most as large
@@ -238,7 +241,7 @@ less (fin false m e) (fin true n d) h k o l =
     let order : b * down e ≤ a * down d = transfer b a (down d) (down e) (unitsOf (fin true n d)) (unitsOf (fin false m e)) one one (pow-pos 1074) (pow-pos 1074) (k .1) (h .1) (mul-le-mul-right one o) in
     rw (le-ltb (a * down d) (b * down e) order)
     (whole
-    (of-fraction false (a * down d - b * down e) (down e * down d) (unitsOf (fin false m e) - unitsOf (fin true n d)) 1 (mul-pos (down-pos e) (down-pos d)) (lit< tt)
+    (of-fraction false (a * down d - b * down e) (down e * down d) (unitsOf (fin false m e) - unitsOf (fin true n d)) 1 (mul-pos (down-pos e) (down-pos d))
     (taken a b (down e) (down d) (unitsOf (fin false m e)) (unitsOf (fin true n d)) one (h .1) (k .1)) (rw (one-mul one) l)))
 
 pub minus : (x y : Float) → Counted false x → Counted false y → unitsOf y ≤ unitsOf x → unitsOf x - unitsOf y < two^- 0 → Counted false (x ⊖ y) × Apart (two^- 54) (unitsOf (x ⊖ y)) (unitsOf x - unitsOf y)
@@ -247,3 +250,23 @@ minus x nan h k o l = absurd k
 minus x (inf s) h k o l = absurd k
 minus x (fin true n d) h k o l = absurd (true≢false (k .0))
 minus x (fin false n d) h k o l = less x (fin true n d) h (refl, k .1) o l
+
+-- ---- what a distance says
+
+-- no distance: the number is the fraction
+pub no-distance : (x : Float) (f : Fraction) → OffBy 0 x f → HasValue x false (f .over) (f .under * two^- 0)
+no-distance nan f h = absurd (h .number)
+no-distance (inf s) f h = absurd (h .number)
+no-distance (fin s m e) f h =
+    let u = unitsOf (fin s m e) in
+    let z = zero-mul (f .under) in
+    let same : u * f .under ≡ f .over = le-antisymm (omega (arith, h .apart .up)) (omega (arith, h .apart .down)) in (
+      h .number .0,
+      rw (mul-comm (f .under) (two^- 0), ← mul-assoc (m * up e) (two^- 0) (f .under), h .number .1, mul-right-comm u (down e) (f .under), same),
+    )
+
+-- two numbers that are near one fraction are near each other
+pub near-each-other : (d e : ℕ) (x y : Float) (f : Fraction) → OffBy d x f → OffBy e y f → Apart (d + e) (unitsOf x) (unitsOf y)
+near-each-other d e x y f h k =
+    let z = add-mul d e (f .under) in
+    apart-cancel (f .under) (d + e) (unitsOf x) (unitsOf y) (h .some) (record { up = omega (arith, h .apart .up, k .apart .down); down = omega (arith, h .apart .down, k .apart .up) })

@@ -1,19 +1,19 @@
 -- How far the lookup is from the broken line (specs/Distance.antt): one computed test over the segments of all nine tables, and one law that carries it along a walk
 -- through them to every Mach number. At the corners themselves the distance is 0, by computing.
 use mathlib.Core.Path.{_≡_, refl, sym, ap, _∙_, subst}
-use mathlib.Core.Bool.{Bool, true, false, _&&_, cond, true≢false}
+use mathlib.Core.Bool.{Bool, true, false, _&&_, true≢false}
 use mathlib.Core.List.{List, [], _∷_}
-use Prim.Native.Nat.{ℕ, zero, suc, _+_, _*_, _/_, _^_, _≤_, _<_}
-use native.Mathlib.Nat.{zero-mul, zero-div, mul-one, mul-pos, zero-lt-suc, le-of-suc-le-suc, not-suc-le-zero}
+use Prim.Native.Nat.{ℕ, zero, suc, _+_, _*_, _≤_, _<_}
+use native.Mathlib.Nat.{zero-mul, mul-one, mul-pos, zero-lt-suc, le-of-suc-le-suc, not-suc-le-zero}
 use native.Mathlib.Omega.{arith}
 use lib.Dec.{T, ltb, eqb, eqb→eq, ltb→lt, lit<}
 use lib.IntN.{ℤ}
 use lib.ListN.{length, getD, drop}
 use lib.Ieee.{Float, nan, inf, fin, binary64, up, down, fits, ofBits, round, sum, neg, add, sub, mul, div, lt, le, eq}
 use lib.Ieee.Scale.{finite}
-use lib.Ieee.Fits.{and-l, and-r, up-pos, down-pos}
+use lib.Ieee.Fits.{and-l, and-r, up-pos}
 use lib.Ieee.Positive.{positive}
-use borrow.Author.Tests.{ltb-true, ltb-false, lt-ltb, le-ltb}
+use borrow.Author.Tests.{ltb-true, ltb-false, lt-ltb}
 use Rattle.elementary.specs.Arithmetic.{_≺_, _≼_}
 use Rattle.elementary.specs.Constants.{0·0, 0·8}
 use Rattle.elementary.specs.Order.{not-above}
@@ -24,18 +24,18 @@ use Rattle.elementary.proofs.Rounding.{no-units, held-counted, counted, counts,
 use Rattle.stoney.specs.declared.StoneyNose.{StoneyNose}
 use Rattle.stoney.specs.Tables.{noses}
 use Rattle.stoney.specs.Points.{Point, points, no-point, every, holds-at}
-use Rattle.stoney.specs.Lookup.{line, before, short-of, walk, lookup, valueAndSlope}
+use Rattle.stoney.specs.Lookup.{line, before, walk, lookup, valueAndSlope}
 use Rattle.stoney.specs.Segments.{below-limit}
-use Rattle.stoney.specs.BrokenLine.{across, start, corners, level, straight, onwards, through, brokenLine}
+use Rattle.stoney.specs.BrokenLine.{across, start, corners, level, onwards, through, brokenLine}
 use Rattle.stoney.specs.Distance.{bound, HowFar}
-use Rattle.stoney.proofs.Segment.{even, fair-slope, slope, on-line}
+use Rattle.stoney.proofs.Segment.{fair-line, fair-slope, slope, on-line}
 use Rattle.stoney.proofs.Corners.{from-start, by-corners}
 
 -- ---- the tests
 
-all-even : T (every (λ nose. even (corners nose)) noses)
+all-fair : T (every (λ nose. fair-line (corners nose)) noses)
 unfolding points ofBits round sum neg add sub mul div
-all-even = tt
+all-fair = tt
 
 abbrev on-corner : StoneyNose → Point → Bool
 on-corner nose p =
@@ -74,14 +74,14 @@ module _ (nose : StoneyNose) where
 
 -- ---- along the walk
 
-first-counts : (p : Point) (ps : List Point) → T (even (p ∷ ps)) → T (counts (p .mach) && counts (p .drag))
+first-counts : (p : Point) (ps : List Point) → T (fair-line (p ∷ ps)) → T (counts (p .mach) && counts (p .drag))
 first-counts p [] t = t
 first-counts p (q ∷ ps) t = and-l (counts (p .mach) && counts (p .drag)) _ t
 
-first-mach : (p : Point) (ps : List Point) → T (even (p ∷ ps)) → Counted false (p .mach)
+first-mach : (p : Point) (ps : List Point) → T (fair-line (p ∷ ps)) → Counted false (p .mach)
 first-mach p ps t = counts-is (p .mach) (and-l (counts (p .mach)) (counts (p .drag)) (first-counts p ps t))
 
-first-drag : (p : Point) (ps : List Point) → T (even (p ∷ ps)) → Counted false (p .drag)
+first-drag : (p : Point) (ps : List Point) → T (fair-line (p ∷ ps)) → Counted false (p .drag)
 first-drag p ps t = counts-is (p .drag) (and-r (counts (p .mach)) (counts (p .drag)) (first-counts p ps t))
 
 on-level : (p : Point) → Counted false (p .drag) → OffBy bound (p .drag) (level p)
@@ -91,45 +91,48 @@ on-level p h = record { some = lit< tt; number = h; apart = near (unitsOf (p .dr
     near u b = let e = mul-one u in record { up = omega arith; down = omega arith }
 
 module _ (M : Float) (hM : Counted false M) where
-  walked : (p : Point) (ps : List Point) → T (even (p ∷ ps)) → across p ≤ unitsOf M → OffBy bound (walk p ps M .value) (onwards p ps (unitsOf M))
+  walked : (p : Point) (ps : List Point) → T (fair-line (p ∷ ps)) → across p ≤ unitsOf M → OffBy bound (walk p ps M .value) (onwards p ps (unitsOf M))
   unfolding walk
   walked p [] t from = on-level p (first-drag p [] t)
   walked p (q ∷ ps) t from = go (ltb (unitsOf M) (across q)) refl (walked q ps rest)
     where
-      both : T (fair-slope p q (slope p q) && even (q ∷ ps))
-      both = and-r (counts (p .mach) && counts (p .drag)) (fair-slope p q (slope p q) && even (q ∷ ps)) t
+      both : T (fair-slope p q (slope p q) && fair-line (q ∷ ps))
+      both = and-r (counts (p .mach) && counts (p .drag)) (fair-slope p q (slope p q) && fair-line (q ∷ ps)) t
 
-      rest : T (even (q ∷ ps))
-      rest = and-r (fair-slope p q (slope p q)) (even (q ∷ ps)) both
+      rest : T (fair-line (q ∷ ps))
+      rest = and-r (fair-slope p q (slope p q)) (fair-line (q ∷ ps)) both
 
       tested : (M ≺ q .mach) ≡ ltb (unitsOf M) (across q)
       tested = less-than M (q .mach) hM (first-mach q ps rest)
 
       go : (b : Bool) → ltb (unitsOf M) (across q) ≡ b → (across q ≤ unitsOf M → OffBy bound (walk q ps M .value) (onwards q ps (unitsOf M))) → OffBy bound (walk p (q ∷ ps) M .value) (onwards p (q ∷ ps) (unitsOf M))
-      go true e again = rw (tested, e) (on-line p q M hM (first-mach p (q ∷ ps) t) (first-drag p (q ∷ ps) t) from (ltb-true (unitsOf M) (across q) e) (and-l (fair-slope p q (slope p q)) (even (q ∷ ps)) both))
+      go true e again = rw (tested, e) (on-line p q M hM (first-mach p (q ∷ ps) t) (first-drag p (q ∷ ps) t) from (ltb-true (unitsOf M) (across q) e) (and-l (fair-slope p q (slope p q)) (fair-line (q ∷ ps)) both))
       go false e again = rw (tested, e) (again (ltb-false (unitsOf M) (across q) e))
 
 -- ---- from Mach 0 up
 
 -- the start, by computing
 record Start : Type 0 where
-  limit : 0·8 ≡ start .mach
-  nothing : 0·0 ≡ start .drag
-  positive : T (positive 0·8)
+  mach-is : 0·8 ≡ start .mach
+  drag-is : 0·0 ≡ start .drag
+  above : T (positive 0·8)
   some : 0 < across start
-  counted : Counted false (start .mach)
-  level : OffBy bound (start .drag) (level start)
+  number : Counted false (start .mach)
+  held : OffBy bound (start .drag) (level start)
 
 at-start : Start
 unfolding round ofBits
 at-start = record {
-  limit = refl;
-  nothing = refl;
-  positive = tt;
+  mach-is = refl;
+  drag-is = refl;
+  above = tt;
   some = lit< tt;
-  counted = counts-is (start .mach) tt;
-  level = on-level start (counts-is (start .drag) tt);
+  number = counts-is (start .mach) tt;
+  held = on-level start (counts-is (start .drag) tt);
 }
+
+by-start : (M : Float) → Counted false M → ltb (unitsOf M) (across start) ≡ M ≺ 0·8
+by-start M hM = sym (less-than M (start .mach) hM (at-start .number)) ∙ ap (λ (x : Float). M ≺ x) (sym (at-start .mach-is))
 
 below-zero : (m : ℕ) (e : ℤ) → (fin true (suc m) e ≺ 0·0) ≡ true
 unfolding lt ofBits
@@ -143,23 +146,23 @@ to-the-left (fin s zero e) h f z l = rw (no-units e) (at-start .some)
 to-the-left (fin true (suc m) e) h f z l = absurd (true≢false (sym (below-zero m e) ∙ not-above 0·0 (fin true (suc m) e) z))
 to-the-left (fin false (suc m) e) h f z l =
     let M = fin false (suc m) e in
-    ltb-true (unitsOf M) (across start) (sym (less-than M (start .mach) (held-counted false (suc m) e h) (at-start .counted)) ∙ ap (λ (x : Float). M ≺ x) (sym (at-start .limit)) ∙ l)
+    ltb-true (unitsOf M) (across start) (by-start M (held-counted false (suc m) e h) ∙ l)
 
 module _ (nose : StoneyNose) (M : Float) (h : T (fits binary64 M)) (f : T (finite M)) (z : T (0·0 ≼ M)) where
   below : (M ≺ 0·8) ≡ true → OffBy bound (valueAndSlope nose M .value) (brokenLine nose M)
   unfolding brokenLine
   below l =
-      rw (below-limit nose M (rw l tt), at-start .nothing)
+      rw (below-limit nose M (rw l tt), at-start .drag-is)
       (subst (λ (ps : List Point). OffBy bound (start .drag) (through ps (unitsOf M))) (sym (from-start nose))
-      (rw (lt-ltb (unitsOf M) (across start) (to-the-left M h f z l)) (at-start .level)))
+      (rw (lt-ltb (unitsOf M) (across start) (to-the-left M h f z l)) (at-start .held)))
 
   from : (M ≺ 0·8) ≡ false → OffBy bound (valueAndSlope nose M .value) (brokenLine nose M)
   unfolding brokenLine
   from l =
-      let above : T (0·8 ≼ M) = reaches 0·8 M (at-start .positive) f l in
-      let hM = counted M (positive-from 0·8 M (at-start .positive) f above) h in
-      let e = sym (less-than M (start .mach) hM (at-start .counted)) ∙ ap (λ (x : Float). M ≺ x) (sym (at-start .limit)) ∙ l in
-      let t = subst (λ (ps : List Point). T (even ps)) (from-start nose) (holds-at (λ nose. even (corners nose)) all-even nose) in
+      let above : T (0·8 ≼ M) = reaches 0·8 M (at-start .above) f l in
+      let hM = counted M (positive-from 0·8 M (at-start .above) f above) h in
+      let e = by-start M hM ∙ l in
+      let t = subst (λ (ps : List Point). T (fair-line ps)) (from-start nose) (holds-at (λ nose. fair-line (corners nose)) all-fair nose) in
       rw (by-corners nose M above)
       (subst (λ (ps : List Point). OffBy bound (walk start (drop 1 (corners nose)) M .value) (through ps (unitsOf M))) (sym (from-start nose))
       (rw e (walked M hM start (drop 1 (corners nose)) t (ltb-false (unitsOf M) (across start) e))))

@@ -45,5 +45,4 @@ through [] m = level no-point
 through (p ∷ rest) m = cond (ltb m (across p)) (level p) (onwards p rest m)
 
 unfoldable pub brokenLine : StoneyNose → Float → Fraction
-unfolding points
 brokenLine nose M = through (corners nose) (unitsOf M)
