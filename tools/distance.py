@@ -6,7 +6,7 @@
     python3 tools/distance.py --port FILE ...     the same of the compiled library's lookup
 
 NOSE is a number from 0 to 8 (docs/REFERENCE.md, Tables) or a name as in the list that is printed.
---searched N sets how many Mach numbers of each segment are tried (5000), --port asks a shared
+--searched N sets how many Mach numbers of each segment are tried (20000), --port asks a shared
 library made from target/staticlib/libcobalnis.a (docs/DISTANCE.md) and not the lookup below.
 
 The points are read from crates/stoney/specs/Tables.antt. Python's floats are binary64 and its
@@ -82,7 +82,7 @@ def units(number):
 
 
 def around(line, mach):
-    """The two corners around a Mach number, the same one twice outside the line."""
+    """The two corners around a Mach number; outside the line the corner at its end, twice."""
     for left, right in zip(line, line[1:]):
         if left[0] <= mach < right[0]:
             return left, right
@@ -91,49 +91,54 @@ def around(line, mach):
 
 
 def height(left, right, mach):
-    """The line's height as (over, under), in units of 2^-1074."""
+    """The line's height there as (over, under), in units of 2^-1074."""
+    if left == right:
+        return units(left[1]), 1
     x, y, z, w = (units(number) for number in (*left, *right))
     m = units(mach)
-    return (y, 1) if left == right else (y * (z - m) + w * (m - x), z - x)
+    return y * (z - m) + w * (m - x), z - x
 
 
-def error(left, right, mach, value):
-    over, under = height(left, right, mach)
+def error(line, mach, value):
+    over, under = height(*around(line, mach), mach)
     return Fraction(abs(units(value) * under - over), under << UNIT)
 
 
-def tried(left, right, count, source):
-    """Mach numbers of one segment: both ends, what is next to them, and others at random."""
-    yield from (left, right, math.nextafter(left, right), math.nextafter(right, left))
-    for _ in range(count):
-        yield source.uniform(left, right)
+def on_the_line(line):
+    """Mach numbers at which nothing may be off: the corners, and all that is level."""
+    first, last = line[0][0], line[-1][0]
+    outside = [0.0, -0.0, 5e-324, 0.5, math.nextafter(first, 0.0), math.nextafter(last, math.inf)]
+    return [mach for mach, _ in line] + outside + [10.0, sys.float_info.max]
 
 
 def worst(line, answer, count, source):
-    """The largest error found on a line: (error, Mach), and beyond its ends too."""
+    """The largest error found between the corners, and where: beside each corner and at random."""
     found = (Fraction(0), 0.0)
-    segments = list(zip(line, line[1:]))
-    for (left, right) in segments:
-        for mach in tried(left[0], right[0], count, source):
-            a, b = around(line, mach)
-            found = max(found, (error(a, b, mach, answer(mach)), mach))
-    for mach in (0.0, -0.0, 5e-324, 0.5, line[-1][0], 10.0, sys.float_info.max):
-        a, b = around(line, mach)
-        found = max(found, (error(a, b, mach, answer(mach)), mach))
+    for left, right in zip(line, line[1:]):
+        (x, y), (z, w) = map(units, left), map(units, right)
+        here = (0, left[0])
+        tried = [math.nextafter(left[0], right[0]), math.nextafter(right[0], left[0])]
+        tried += (source.uniform(left[0], right[0]) for _ in range(count))
+        for mach in tried:
+            if left[0] <= mach < right[0]:
+                m = units(mach)
+                off = abs(units(answer(mach)) * (z - x) - (y * (z - m) + w * (m - x)))
+                here = max(here, (off, mach))
+        found = max(found, (Fraction(here[0], (z - x) << UNIT), here[1]))
     return found
 
 
 def show_all(tables, answers, count):
-    print("nose                   points  worst error   of 2^-50  at Mach")
+    print("nose                   points  worst error  of 2^-50  at Mach")
     most = Fraction(0)
     for name, points in tables.items():
-        line = corners(points)
-        at_corners = [error(*around(line, m), m, answers[name](m)) for m, _ in line]
-        if any(at_corners):
-            sys.exit(f"distance.py: {name} is off at a tabled Mach")
-        off, mach = worst(line, answers[name], count, random.Random(name))
+        line, answer = corners(points), answers[name]
+        for mach in on_the_line(line):
+            if error(line, mach, answer(mach)) != 0:
+                sys.exit(f"distance.py: {name} is off the line at Mach {mach!r}")
+        off, mach = worst(line, answer, count, random.Random(name))
         most = max(most, off)
-        print(f"{name:22} {len(points):6}  {float(off):.4e}    {float(off / BOUND):.4f}    {mach!r}")
+        print(f"{name:22} {len(points):6}   {float(off):.3e}    {float(off / BOUND):.4f}  {mach!r}")
     print(f"at every tabled Mach, 0.8 included: 0; the worst of all: {float(most / BOUND):.4f} of 2^-50")
     if most > BOUND:
         sys.exit("distance.py: above the bound")
@@ -162,7 +167,7 @@ def main():
     parser.add_argument("nose", nargs="?")
     parser.add_argument("mach", nargs="?", type=float)
     parser.add_argument("--port", metavar="FILE")
-    parser.add_argument("--searched", metavar="N", type=int, default=5000)
+    parser.add_argument("--searched", metavar="N", type=int, default=20000)
     given = parser.parse_args()
     tables = read_tables()
     names = list(tables)

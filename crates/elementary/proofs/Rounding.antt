@@ -18,7 +18,7 @@ use lib.Ieee.Positive.{positive}
 use borrow.Author.Tests.{ltb-true, ltb-false, lt-ltb, le-ltb}
 use Rattle.elementary.specs.Arithmetic.{_⊕_, _⊖_, _⊗_, _≺_}
 use Rattle.elementary.specs.Nearest.{unitsOf}
-use Rattle.elementary.specs.Distance.{two^-, Counted, Fraction, Apart, OffBy}
+use Rattle.elementary.specs.Distance.{two^-, Counts, Fraction, Apart, OffBy}
 use Rattle.elementary.proofs.Bits.{held, in-units}
 
 -- ---- apart, times a number and without it
@@ -40,39 +40,36 @@ apart-more l h = record { up = omega (arith, h .up); down = omega (arith, h .dow
 
 -- ---- a number in units
 
-pub units-are : (x : Float) (s : Bool) (u : ℕ) → HasValue x s u (two^- 0) → unitsOf x ≡ u
+pub units-are : (x : Float) (s : Bool) (u : ℕ) → Counts x s u → unitsOf x ≡ u
 units-are nan s u v = absurd v
 units-are (inf t) s u v = absurd v
 units-are (fin t m e) s u v = ap (λ (a : ℕ). a / down e) (v .1) ∙ mul-div-cancel u (down-pos e)
-
-counted-by : (x : Float) (s : Bool) (u : ℕ) → HasValue x s u (two^- 0) → Counted s x
-counted-by x s u v = rw (units-are x s u v) v
 
 pub no-units : (e : ℤ) → 0 * up e * 2 ^ 1074 / down e ≡ 0
 no-units e = rw (zero-mul (up e), zero-mul (2 ^ 1074)) (zero-div (down e))
 
 -- every finite number that binary64 holds is a whole number of units
-pub held-counted : (s : Bool) (m : ℕ) (e : ℤ) → T (fits binary64 (fin s m e)) → Counted s (fin s m e)
-held-counted s zero e h = (refl, rw (no-units e, zero-mul (up e), zero-mul (down e)) (zero-mul (two^- 0)))
-held-counted s (suc m) e h = (refl, in-units m e (held s m e h) .exact)
+pub held-counts : (s : Bool) (m : ℕ) (e : ℤ) → T (fits binary64 (fin s m e)) → Counts (fin s m e) s (unitsOf (fin s m e))
+held-counts s zero e h = (refl, rw (no-units e, zero-mul (up e), zero-mul (down e)) (zero-mul (two^- 0)))
+held-counts s (suc m) e h = (refl, in-units m e (held s m e h) .exact)
 
-pub counted : (x : Float) → T (positive x) → T (fits binary64 x) → Counted false x
-counted nan p h = absurd p
-counted (inf s) p h = absurd p
-counted (fin true m e) p h = absurd p
-counted (fin false m e) p h = held-counted false m e h
+pub positive-counts : (x : Float) → T (positive x) → T (fits binary64 x) → Counts x false (unitsOf x)
+positive-counts nan p h = absurd p
+positive-counts (inf s) p h = absurd p
+positive-counts (fin true m e) p h = absurd p
+positive-counts (fin false m e) p h = held-counts false m e h
 
 -- the same as a test that computes
-abbrev pub counts : Float → Bool
-counts nan = false
-counts (inf s) = false
-counts (fin s m e) = not s && eqb (m * up e * two^- 0) (unitsOf (fin s m e) * down e)
+abbrev pub counts : Float → ℕ → Bool
+counts nan u = false
+counts (inf s) u = false
+counts (fin s m e) u = not s && eqb (m * up e * two^- 0) (u * down e)
 
-pub counts-is : (x : Float) → T (counts x) → Counted false x
-counts-is nan t = absurd t
-counts-is (inf s) t = absurd t
-counts-is (fin true m e) t = absurd t
-counts-is (fin false m e) t = (refl, eqb→eq (m * up e * two^- 0) (unitsOf (fin false m e) * down e) t)
+pub counts-is : (x : Float) (u : ℕ) → T (counts x u) → Counts x false u
+counts-is nan u t = absurd t
+counts-is (inf s) u t = absurd t
+counts-is (fin true m e) u t = absurd t
+counts-is (fin false m e) u t = (refl, eqb→eq (m * up e * two^- 0) (u * down e) t)
 
 -- ---- the order is that of the units
 
@@ -83,15 +80,15 @@ ltb-times a b k K = go (ltb a b) refl
     go true e = lt-ltb (a * k) (b * k) (mul-lt-mul-of-pos-right (ltb-true a b e) K)
     go false e = le-ltb (a * k) (b * k) (mul-le-mul-right k (ltb-false a b e))
 
-pub less-than : (x y : Float) → Counted false x → Counted false y → (x ≺ y) ≡ ltb (unitsOf x) (unitsOf y)
+pub less-than : (x y : Float) (a k : ℕ) → Counts x false a → Counts y false k → (x ≺ y) ≡ ltb a k
 unfolding lt
-less-than nan y h k = absurd h
-less-than (inf s) y h k = absurd h
-less-than (fin true m e) y h k = absurd (true≢false (h .0))
-less-than (fin false m e) nan h k = absurd k
-less-than (fin false m e) (inf s) h k = absurd k
-less-than (fin false m e) (fin true n d) h k = absurd (true≢false (k .0))
-less-than (fin false m e) (fin false n d) h k = between (m * up e) (n * up d) (down e) (down d) (unitsOf (fin false m e)) (unitsOf (fin false n d)) (two^- 0) (down-pos e) (down-pos d) (pow-pos 1074) (h .1) (k .1)
+less-than nan y a k h g = absurd h
+less-than (inf s) y a k h g = absurd h
+less-than (fin true m e) y a k h g = absurd (true≢false (h .0))
+less-than (fin false m e) nan a k h g = absurd g
+less-than (fin false m e) (inf s) a k h g = absurd g
+less-than (fin false m e) (fin true n d) a k h g = absurd (true≢false (g .0))
+less-than (fin false m e) (fin false n d) a k h g = between (m * up e) (n * up d) (down e) (down d) a k (two^- 0) (down-pos e) (down-pos d) (pow-pos 1074) (h .1) (g .1)
   where
     between : (a b c d x y w : ℕ) → 0 < c → 0 < d → 0 < w → a * w ≡ x * c → b * w ≡ y * d → ltb (a * d) (b * c) ≡ ltb x y
     between a b c d x y w C D W p q =
@@ -134,7 +131,7 @@ kept-apart p j n c C h =
 
 -- x is a / b units with the sign s, rounded
 pub record Rounded (x : Float) (s : Bool) (a b : ℕ) : Type 0 where
-  pub number : Counted s x
+  pub number : Counts x s (unitsOf x)
   pub apart : Apart (two^- 54 * b) (unitsOf x * b) a
 
 -- what is near a number below w is at most 2 w
@@ -153,8 +150,8 @@ rounded s n d D h =
     let g = kept 53 a d * 2 ^ drop 53 a d in
     let near : Apart (two^- 54 * d) (g * d) a = kept-apart 53 1020 a d D l in
     let fine = lt-of-le-of-lt (under g a d one (two^- 54) D (lit≤ tt) l (near .up)) (lit< tt) in
-    let v : HasValue x s g one = rw (round-is binary64 s n d) (units-val binary64 s (kept 53 a d) (drop 53 a d) fine) in
-    record { number = counted-by x s g v; apart = rw (units-are x s g v) near }
+    let v : Counts x s g = rw (round-is binary64 s n d) (units-val binary64 s (kept 53 a d) (drop 53 a d) fine) in
+    record { number = rw (units-are x s g v) v; apart = rw (units-are x s g v) near }
 
 -- the same where n / d is a / b units
 module _ (s : Bool) (n d a b : ℕ) (D : 0 < d) (e : n * two^- 0 * b ≡ a * d) (h : a < b * two^- 0) where
@@ -169,16 +166,15 @@ module _ (s : Bool) (n d a b : ℕ) (D : 0 < d) (e : n * two^- 0 * b ≡ a * d) 
 
 -- ---- the product of a fraction and a number in units
 
-pub product : (x y : Float) (t : Bool) (a b : ℕ) → HasValue x t a b → Counted false y → a * unitsOf y < b * two^- 0 → Rounded (x ⊗ y) t (a * unitsOf y) b
+pub product : (x y : Float) (s : Bool) (a b k : ℕ) → HasValue x s a b → Counts y false k → a * k < b * two^- 0 → Rounded (x ⊗ y) s (a * k) b
 unfolding mul
-product nan y t a b h k l = absurd h
-product (inf s) y t a b h k l = absurd h
-product (fin s m e) nan t a b h k l = absurd k
-product (fin s m e) (inf u) t a b h k l = absurd k
-product (fin s m e) (fin u n d) t a b h k l =
-    rw (h .0, k .0, alike t)
-    (of-fraction t (m * up e * (n * up d)) (down e * down d) (a * unitsOf (fin u n d)) b (mul-pos (down-pos e) (down-pos d))
-    (crossed (m * up e) (n * up d) (down e) (down d) a b (unitsOf (fin u n d)) (two^- 0) (h .1) (k .1)) l)
+product nan y s a b k h g l = absurd h
+product (inf t) y s a b k h g l = absurd h
+product (fin t m e) nan s a b k h g l = absurd g
+product (fin t m e) (inf u) s a b k h g l = absurd g
+product (fin t m e) (fin u n d) s a b k h g l =
+    rw (h .0, g .0, alike s)
+    (of-fraction s (m * up e * (n * up d)) (down e * down d) (a * k) b (mul-pos (down-pos e) (down-pos d)) (crossed (m * up e) (n * up d) (down e) (down d) a b k (two^- 0) (h .1) (g .1)) l)
   where
     alike : (t : Bool) → unlike t false ≡ t
     alike true = refl
@@ -209,47 +205,50 @@ module _ (x y c d a k w : ℕ) (p : x * w ≡ a * c) (q : y * w ≡ k * d) where
   taken : (x * d - y * c) * w * 1 ≡ (a - k) * (c * d)
   taken = mul-one ((x * d - y * c) * w) ∙ less-times (x * d) (y * c) w ∙ rw (first, second) (sym (less-times a k (c * d)))
 
-whole : {x : Float} {a : ℕ} → Rounded x false a 1 → Counted false x × Apart (two^- 54) (unitsOf x) a
-whole {x} r = (r .number, rw (mul-one (unitsOf x)) at (r .apart))
+-- x is rounded from a whole number of units
+pub record RoundedWhole (x : Float) (a : ℕ) : Type 0 where
+  pub number : Counts x false (unitsOf x)
+  pub apart : Apart (two^- 54) (unitsOf x) a
 
-pub plus : (x y : Float) → Counted false x → Counted false y → unitsOf x + unitsOf y < two^- 0 → Counted false (x ⊕ y) × Apart (two^- 54) (unitsOf (x ⊕ y)) (unitsOf x + unitsOf y)
+whole : {x : Float} {a : ℕ} → Rounded x false a 1 → RoundedWhole x a
+whole {x} r = record { number = r .number; apart = rw (mul-one (unitsOf x)) at (r .apart) }
+
+pub plus : (x y : Float) (a k : ℕ) → Counts x false a → Counts y false k → a + k < two^- 0 → RoundedWhole (x ⊕ y) (a + k)
 unfolding add sum
-plus nan y h k l = absurd h
-plus (inf s) y h k l = absurd h
-plus (fin s m e) nan h k l = absurd k
-plus (fin s m e) (inf u) h k l = absurd k
-plus (fin true m e) (fin u n d) h k l = absurd (true≢false (h .0))
-plus (fin false m e) (fin true n d) h k l = absurd (true≢false (k .0))
-plus (fin false m e) (fin false n d) h k l =
+plus nan y a k h g l = absurd h
+plus (inf s) y a k h g l = absurd h
+plus (fin s m e) nan a k h g l = absurd g
+plus (fin s m e) (inf t) a k h g l = absurd g
+plus (fin true m e) (fin t n d) a k h g l = absurd (true≢false (h .0))
+plus (fin false m e) (fin true n d) a k h g l = absurd (true≢false (g .0))
+plus (fin false m e) (fin false n d) a k h g l =
     whole
-    (of-fraction false (m * up e * down d + n * up d * down e) (down e * down d) (unitsOf (fin false m e) + unitsOf (fin false n d)) 1 (mul-pos (down-pos e) (down-pos d))
-    (added (m * up e) (n * up d) (down e) (down d) (unitsOf (fin false m e)) (unitsOf (fin false n d)) (two^- 0) (h .1) (k .1)) (rw (one-mul (two^- 0)) l))
+    (of-fraction false (m * up e * down d + n * up d * down e) (down e * down d) (a + k) 1 (mul-pos (down-pos e) (down-pos d))
+    (added (m * up e) (n * up d) (down e) (down d) a k (two^- 0) (h .1) (g .1)) (rw (one-mul (two^- 0)) l))
 
 -- with a negative number that is at most as large
-pub less : (x y : Float) → Counted false x → Counted true y → unitsOf y ≤ unitsOf x → unitsOf x - unitsOf y < two^- 0 → Counted false (x ⊕ y) × Apart (two^- 54) (unitsOf (x ⊕ y)) (unitsOf x - unitsOf y)
+pub less : (x y : Float) (a k : ℕ) → Counts x false a → Counts y true k → k ≤ a → a - k < two^- 0 → RoundedWhole (x ⊕ y) (a - k)
 unfolding add sum
-less nan y h k o l = absurd h
-less (inf s) y h k o l = absurd h
-less (fin s m e) nan h k o l = absurd k
-less (fin s m e) (inf u) h k o l = absurd k
-less (fin true m e) (fin u n d) h k o l = absurd (true≢false (h .0))
-less (fin false m e) (fin false n d) h k o l = absurd (false≢true (k .0))
-less (fin false m e) (fin true n d) h k o l =
-    let a = m * up e in
-    let b = n * up d in
+less nan y a k h g o l = absurd h
+less (inf s) y a k h g o l = absurd h
+less (fin s m e) nan a k h g o l = absurd g
+less (fin s m e) (inf t) a k h g o l = absurd g
+less (fin true m e) (fin t n d) a k h g o l = absurd (true≢false (h .0))
+less (fin false m e) (fin false n d) a k h g o l = absurd (false≢true (g .0))
+less (fin false m e) (fin true n d) a k h g o l =
+    let x = m * up e in
+    let y = n * up d in
     let one = two^- 0 in
-    let order : b * down e ≤ a * down d = transfer b a (down d) (down e) (unitsOf (fin true n d)) (unitsOf (fin false m e)) one one (pow-pos 1074) (pow-pos 1074) (k .1) (h .1) (mul-le-mul-right one o) in
-    rw (le-ltb (a * down d) (b * down e) order)
+    rw (le-ltb (x * down d) (y * down e) (transfer y x (down d) (down e) k a one one (pow-pos 1074) (pow-pos 1074) (g .1) (h .1) (mul-le-mul-right one o)))
     (whole
-    (of-fraction false (a * down d - b * down e) (down e * down d) (unitsOf (fin false m e) - unitsOf (fin true n d)) 1 (mul-pos (down-pos e) (down-pos d))
-    (taken a b (down e) (down d) (unitsOf (fin false m e)) (unitsOf (fin true n d)) one (h .1) (k .1)) (rw (one-mul one) l)))
+    (of-fraction false (x * down d - y * down e) (down e * down d) (a - k) 1 (mul-pos (down-pos e) (down-pos d)) (taken x y (down e) (down d) a k one (h .1) (g .1)) (rw (one-mul one) l)))
 
-pub minus : (x y : Float) → Counted false x → Counted false y → unitsOf y ≤ unitsOf x → unitsOf x - unitsOf y < two^- 0 → Counted false (x ⊖ y) × Apart (two^- 54) (unitsOf (x ⊖ y)) (unitsOf x - unitsOf y)
+pub minus : (x y : Float) (a k : ℕ) → Counts x false a → Counts y false k → k ≤ a → a - k < two^- 0 → RoundedWhole (x ⊖ y) (a - k)
 unfolding sub neg
-minus x nan h k o l = absurd k
-minus x (inf s) h k o l = absurd k
-minus x (fin true n d) h k o l = absurd (true≢false (k .0))
-minus x (fin false n d) h k o l = less x (fin true n d) h (refl, k .1) o l
+minus x nan a k h g o l = absurd g
+minus x (inf s) a k h g o l = absurd g
+minus x (fin true n d) a k h g o l = absurd (true≢false (g .0))
+minus x (fin false n d) a k h g o l = less x (fin true n d) a k h (refl, g .1) o l
 
 -- ---- what a distance says
 

@@ -10,9 +10,9 @@ use Rattle.elementary.specs.Nearest.{unitsOf}
 abbrev pub two^- : ℕ → ℕ
 two^- k = 2 ^ (1074 - k)
 
--- x is finite, has the sign s, and is `unitsOf x` units in size, with nothing lost
-abbrev pub Counted : Bool → Float → Type 0
-Counted s x = HasValue x s (unitsOf x) (two^- 0)
+-- x is finite, has the sign s, and is u units in size
+abbrev pub Counts : Float → Bool → ℕ → Type 0
+Counts x s u = HasValue x s u (two^- 0)
 
 -- over / under
 pub record Fraction : Type 0 where
@@ -27,5 +27,5 @@ pub record Apart (e x y : ℕ) : Type 0 where
 -- x is a number from +0 up, and at most e units from the fraction f of a unit: | x - over / under | ≤ e, multiplied by `under`, which is above zero
 pub record OffBy (e : ℕ) (x : Float) (f : Fraction) : Type 0 where
   pub some : 0 < f .under
-  pub number : Counted false x
+  pub number : Counts x false (unitsOf x)
   pub apart : Apart (e * f .under) (unitsOf x * f .under) (f .over)

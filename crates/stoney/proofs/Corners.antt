@@ -1,18 +1,21 @@
 -- From Mach 0.8 on the lookup is one walk through the corners of the broken line (`by-corners`): the run of the two tables that start at Mach 1.2 is its first segment.
 use mathlib.Core.Path.{_≡_, refl, sym, ap, _∙_}
-use mathlib.Core.Bool.{Bool, true, false, cond}
+use mathlib.Core.Bool.{Bool, true, false, _&&_, cond}
 use mathlib.Core.List.{List, [], _∷_}
 use Prim.Native.Nat.{_<_}
 use native.Mathlib.Nat.{not-suc-le-zero}
 use native.Mathlib.Omega.{arith}
 use lib.Dec.{T}
 use lib.ListN.{length, getD, drop}
-use lib.Ieee.{Float, ofBits, round}
+use lib.Ieee.{Float, ofBits, toBits, fits, round}
+use lib.Ieee.Fits.{and-l, and-r}
 use Rattle.elementary.specs.Arithmetic.{_≺_, _≼_}
 use Rattle.elementary.specs.Constants.{0·8}
+use Rattle.elementary.specs.Equal.{same, same-is}
 use Rattle.elementary.specs.Order.{not-above}
 use Rattle.stoney.specs.declared.StoneyNose.{StoneyNose}
-use Rattle.stoney.specs.Points.{Point, points, no-point, firstMach, from-1·2, range-within}
+use Rattle.stoney.specs.Tables.{noses}
+use Rattle.stoney.specs.Points.{Point, points, no-point, firstMach, from-1·2, range-within, every, holds-at}
 use Rattle.stoney.specs.Lookup.{line, short-of, walk, lookup, valueAndSlope}
 use Rattle.stoney.specs.Segments.{pointOf, count-is, 1·2, at-limit, starts}
 use Rattle.stoney.specs.BrokenLine.{start, corners}
@@ -27,16 +30,23 @@ some nose = omega (arith, count-is nose, range-within nose .0)
 
 -- ---- every line begins at drag 0 and Mach 0.8
 
-headed : (ps : List Point) (p : Point) → 0 < length ps → getD ps 0 no-point ≡ p → ps ≡ p ∷ drop 1 ps
-headed [] p h e = absurd (not-suc-le-zero h)
-headed (q ∷ ps) p h e = ap (λ (r : Point). r ∷ ps) e
+abbrev begins : List Point → Bool
+begins [] = false
+begins (p ∷ ps) = same (p .mach) (start .mach) && same (p .drag) (start .drag)
+
+all-begin : T (every (λ nose. begins (corners nose)) noses)
+unfolding points round ofBits toBits fits
+all-begin = tt
+
+begun : (ps : List Point) → T (begins ps) → ps ≡ start ∷ drop 1 ps
+begun [] t = absurd t
+begun (p ∷ ps) t =
+    let m : p .mach ≡ start .mach = same-is (p .mach) (start .mach) (and-l (same (p .mach) (start .mach)) _ t) in
+    let c : p .drag ≡ start .drag = same-is (p .drag) (start .drag) (and-r (same (p .mach) (start .mach)) _ t) in
+    λ i. record { mach = m i; drag = c i } ∷ ps
 
 pub from-start : (nose : StoneyNose) → corners nose ≡ start ∷ drop 1 (corners nose)
-from-start nose = go (from-1·2 nose) (starts nose)
-  where
-    go : (b : Bool) → cond b (firstMach nose ≡ 1·2) (pointOf nose 0 ≡ at-limit) → let ps = cond b (start ∷ points nose) (points nose) in ps ≡ start ∷ drop 1 ps
-    go true e = refl
-    go false e = headed (points nose) start (some nose) (e ∙ sym start-is)
+from-start nose = begun (corners nose) (holds-at (λ nose. begins (corners nose)) all-begin nose)
 
 -- ---- the walk
 

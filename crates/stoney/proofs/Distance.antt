@@ -18,20 +18,30 @@ use Rattle.elementary.specs.Arithmetic.{_≺_, _≼_}
 use Rattle.elementary.specs.Constants.{0·0, 0·8}
 use Rattle.elementary.specs.Order.{not-above}
 use Rattle.elementary.specs.Nearest.{unitsOf}
-use Rattle.elementary.specs.Distance.{Counted, Apart, OffBy}
+use Rattle.elementary.specs.Distance.{Counts, Apart, OffBy}
 use Rattle.elementary.proofs.Ranges.{reaches, positive-from}
-use Rattle.elementary.proofs.Rounding.{no-units, held-counted, counted, counts, counts-is, less-than}
+use Rattle.elementary.proofs.Rounding.{units-are, no-units, held-counts, positive-counts, counts, counts-is, less-than}
 use Rattle.stoney.specs.declared.StoneyNose.{StoneyNose}
 use Rattle.stoney.specs.Tables.{noses}
 use Rattle.stoney.specs.Points.{Point, points, no-point, every, holds-at}
 use Rattle.stoney.specs.Lookup.{line, before, walk, lookup, valueAndSlope}
 use Rattle.stoney.specs.Segments.{below-limit}
-use Rattle.stoney.specs.BrokenLine.{across, start, corners, level, onwards, through, brokenLine}
+use Rattle.stoney.specs.BrokenLine.{across, height, start, corners, level, onwards, through, brokenLine}
 use Rattle.stoney.specs.Distance.{bound, HowFar}
-use Rattle.stoney.proofs.Segment.{fair-line, fair-slope, slope, on-line}
+use Rattle.stoney.proofs.Segment.{fair-segment, on-line}
 use Rattle.stoney.proofs.Corners.{from-start, by-corners}
 
 -- ---- the tests
+
+-- a point stands where the line has it
+abbrev stands : Point → Bool
+stands p = counts (p .mach) (across p) && counts (p .drag) (height p)
+
+-- the corners that are left, each with the segment to its right
+abbrev fair-line : List Point → Bool
+fair-line [] = true
+fair-line (p ∷ []) = stands p
+fair-line (p ∷ q ∷ rest) = stands p && (fair-segment p q && fair-line (q ∷ rest))
 
 all-fair : T (every (λ nose. fair-line (corners nose)) noses)
 unfolding points ofBits round sum neg add sub mul div
@@ -41,7 +51,7 @@ abbrev on-corner : StoneyNose → Point → Bool
 on-corner nose p =
     let v = valueAndSlope nose (p .mach) .value in
     let f = brokenLine nose (p .mach) in
-    ltb 0 (f .under) && (counts v && eqb (unitsOf v * f .under) (f .over))
+    ltb 0 (f .under) && (counts v (unitsOf v) && eqb (unitsOf v * f .under) (f .over))
 
 abbrev on-corners : StoneyNose → List Point → Bool
 on-corners nose [] = true
@@ -58,12 +68,12 @@ module _ (nose : StoneyNose) where
   no-distance p t =
       let v = valueAndSlope nose (p .mach) .value in
       let f = brokenLine nose (p .mach) in
-      let u = and-r (ltb 0 (f .under)) (counts v && eqb (unitsOf v * f .under) (f .over)) t in
-      let e = eqb→eq (unitsOf v * f .under) (f .over) (and-r (counts v) (eqb (unitsOf v * f .under) (f .over)) u) in
+      let u = and-r (ltb 0 (f .under)) (counts v (unitsOf v) && eqb (unitsOf v * f .under) (f .over)) t in
+      let e = eqb→eq (unitsOf v * f .under) (f .over) (and-r (counts v (unitsOf v)) (eqb (unitsOf v * f .under) (f .over)) u) in
       let z = zero-mul (f .under) in
       record {
         some = ltb→lt 0 (f .under) (and-l (ltb 0 (f .under)) _ t);
-        number = counts-is v (and-l (counts v) _ u);
+        number = counts-is v (unitsOf v) (and-l (counts v (unitsOf v)) _ u);
         apart = record { up = omega arith; down = omega arith };
       }
 
@@ -74,40 +84,41 @@ module _ (nose : StoneyNose) where
 
 -- ---- along the walk
 
-first-counts : (p : Point) (ps : List Point) → T (fair-line (p ∷ ps)) → T (counts (p .mach) && counts (p .drag))
-first-counts p [] t = t
-first-counts p (q ∷ ps) t = and-l (counts (p .mach) && counts (p .drag)) _ t
+first-stands : (p : Point) (ps : List Point) → T (fair-line (p ∷ ps)) → T (stands p)
+first-stands p [] t = t
+first-stands p (q ∷ ps) t = and-l (stands p) (fair-segment p q && fair-line (q ∷ ps)) t
 
-first-mach : (p : Point) (ps : List Point) → T (fair-line (p ∷ ps)) → Counted false (p .mach)
-first-mach p ps t = counts-is (p .mach) (and-l (counts (p .mach)) (counts (p .drag)) (first-counts p ps t))
+first-mach : (p : Point) (ps : List Point) → T (fair-line (p ∷ ps)) → Counts (p .mach) false (across p)
+first-mach p ps t = counts-is (p .mach) (across p) (and-l (counts (p .mach) (across p)) (counts (p .drag) (height p)) (first-stands p ps t))
 
-first-drag : (p : Point) (ps : List Point) → T (fair-line (p ∷ ps)) → Counted false (p .drag)
-first-drag p ps t = counts-is (p .drag) (and-r (counts (p .mach)) (counts (p .drag)) (first-counts p ps t))
+first-drag : (p : Point) (ps : List Point) → T (fair-line (p ∷ ps)) → Counts (p .drag) false (height p)
+first-drag p ps t = counts-is (p .drag) (height p) (and-r (counts (p .mach) (across p)) (counts (p .drag) (height p)) (first-stands p ps t))
 
-on-level : (p : Point) → Counted false (p .drag) → OffBy bound (p .drag) (level p)
-on-level p h = record { some = lit< tt; number = h; apart = near (unitsOf (p .drag)) (bound * 1) }
+on-level : (p : Point) → Counts (p .drag) false (height p) → OffBy bound (p .drag) (level p)
+on-level p h = let e = units-are (p .drag) false (height p) h in record { some = lit< tt; number = rw e h; apart = rw e (near (height p) (bound * 1)) }
   where
     near : (u b : ℕ) → Apart b (u * 1) u
     near u b = let e = mul-one u in record { up = omega arith; down = omega arith }
 
-module _ (M : Float) (hM : Counted false M) where
-  walked : (p : Point) (ps : List Point) → T (fair-line (p ∷ ps)) → across p ≤ unitsOf M → OffBy bound (walk p ps M .value) (onwards p ps (unitsOf M))
+module _ (M : Float) (m : ℕ) (hM : Counts M false m) where
+  walked : (p : Point) (ps : List Point) → T (fair-line (p ∷ ps)) → across p ≤ m → OffBy bound (walk p ps M .value) (onwards p ps m)
   unfolding walk
   walked p [] t from = on-level p (first-drag p [] t)
-  walked p (q ∷ ps) t from = go (ltb (unitsOf M) (across q)) refl (walked q ps rest)
+  walked p (q ∷ ps) t from = go (ltb m (across q)) refl (walked q ps rest)
     where
-      both : T (fair-slope p q (slope p q) && fair-line (q ∷ ps))
-      both = and-r (counts (p .mach) && counts (p .drag)) (fair-slope p q (slope p q) && fair-line (q ∷ ps)) t
+      both : T (fair-segment p q && fair-line (q ∷ ps))
+      both = and-r (stands p) (fair-segment p q && fair-line (q ∷ ps)) t
 
       rest : T (fair-line (q ∷ ps))
-      rest = and-r (fair-slope p q (slope p q)) (fair-line (q ∷ ps)) both
+      rest = and-r (fair-segment p q) (fair-line (q ∷ ps)) both
 
-      tested : (M ≺ q .mach) ≡ ltb (unitsOf M) (across q)
-      tested = less-than M (q .mach) hM (first-mach q ps rest)
+      tested : (M ≺ q .mach) ≡ ltb m (across q)
+      tested = less-than M (q .mach) m (across q) hM (first-mach q ps rest)
 
-      go : (b : Bool) → ltb (unitsOf M) (across q) ≡ b → (across q ≤ unitsOf M → OffBy bound (walk q ps M .value) (onwards q ps (unitsOf M))) → OffBy bound (walk p (q ∷ ps) M .value) (onwards p (q ∷ ps) (unitsOf M))
-      go true e again = rw (tested, e) (on-line p q M hM (first-mach p (q ∷ ps) t) (first-drag p (q ∷ ps) t) from (ltb-true (unitsOf M) (across q) e) (and-l (fair-slope p q (slope p q)) (fair-line (q ∷ ps)) both))
-      go false e again = rw (tested, e) (again (ltb-false (unitsOf M) (across q) e))
+      go : (b : Bool) → ltb m (across q) ≡ b → (across q ≤ m → OffBy bound (walk q ps M .value) (onwards q ps m)) → OffBy bound (walk p (q ∷ ps) M .value) (onwards p (q ∷ ps) m)
+      go true e again =
+          rw (tested, e) (on-line p q M m hM (first-mach p (q ∷ ps) t) (first-drag p (q ∷ ps) t) from (ltb-true m (across q) e) (and-l (fair-segment p q) (fair-line (q ∷ ps)) both))
+      go false e again = rw (tested, e) (again (ltb-false m (across q) e))
 
 -- ---- from Mach 0 up
 
@@ -117,7 +128,7 @@ record Start : Type 0 where
   drag-is : 0·0 ≡ start .drag
   above : T (positive 0·8)
   some : 0 < across start
-  number : Counted false (start .mach)
+  number : Counts (start .mach) false (across start)
   held : OffBy bound (start .drag) (level start)
 
 at-start : Start
@@ -127,12 +138,12 @@ at-start = record {
   drag-is = refl;
   above = tt;
   some = lit< tt;
-  number = counts-is (start .mach) tt;
-  held = on-level start (counts-is (start .drag) tt);
+  number = counts-is (start .mach) (across start) tt;
+  held = on-level start (counts-is (start .drag) (height start) tt);
 }
 
-by-start : (M : Float) → Counted false M → ltb (unitsOf M) (across start) ≡ M ≺ 0·8
-by-start M hM = sym (less-than M (start .mach) hM (at-start .number)) ∙ ap (λ (x : Float). M ≺ x) (sym (at-start .mach-is))
+by-start : (M : Float) → Counts M false (unitsOf M) → ltb (unitsOf M) (across start) ≡ M ≺ 0·8
+by-start M hM = sym (less-than M (start .mach) (unitsOf M) (across start) hM (at-start .number)) ∙ ap (λ (x : Float). M ≺ x) (sym (at-start .mach-is))
 
 below-zero : (m : ℕ) (e : ℤ) → (fin true (suc m) e ≺ 0·0) ≡ true
 unfolding lt ofBits
@@ -146,7 +157,7 @@ to-the-left (fin s zero e) h f z l = rw (no-units e) (at-start .some)
 to-the-left (fin true (suc m) e) h f z l = absurd (true≢false (sym (below-zero m e) ∙ not-above 0·0 (fin true (suc m) e) z))
 to-the-left (fin false (suc m) e) h f z l =
     let M = fin false (suc m) e in
-    ltb-true (unitsOf M) (across start) (by-start M (held-counted false (suc m) e h) ∙ l)
+    ltb-true (unitsOf M) (across start) (by-start M (held-counts false (suc m) e h) ∙ l)
 
 module _ (nose : StoneyNose) (M : Float) (h : T (fits binary64 M)) (f : T (finite M)) (z : T (0·0 ≼ M)) where
   below : (M ≺ 0·8) ≡ true → OffBy bound (valueAndSlope nose M .value) (brokenLine nose M)
@@ -160,12 +171,12 @@ module _ (nose : StoneyNose) (M : Float) (h : T (fits binary64 M)) (f : T (finit
   unfolding brokenLine
   from l =
       let above : T (0·8 ≼ M) = reaches 0·8 M (at-start .above) f l in
-      let hM = counted M (positive-from 0·8 M (at-start .above) f above) h in
+      let hM = positive-counts M (positive-from 0·8 M (at-start .above) f above) h in
       let e = by-start M hM ∙ l in
       let t = subst (λ (ps : List Point). T (fair-line ps)) (from-start nose) (holds-at (λ nose. fair-line (corners nose)) all-fair nose) in
       rw (by-corners nose M above)
       (subst (λ (ps : List Point). OffBy bound (walk start (drop 1 (corners nose)) M .value) (through ps (unitsOf M))) (sym (from-start nose))
-      (rw e (walked M hM start (drop 1 (corners nose)) t (ltb-false (unitsOf M) (across start) e))))
+      (rw e (walked M (unitsOf M) hM start (drop 1 (corners nose)) t (ltb-false (unitsOf M) (across start) e))))
 
   within : (b : Bool) → (M ≺ 0·8) ≡ b → OffBy bound (valueAndSlope nose M .value) (brokenLine nose M)
   within true l = below l

@@ -1,9 +1,8 @@
--- One segment: a computed test of its two ends and its rounded slope (`fair-slope`), and the law that where the test passes the lookup's line is within 2 ^ -50 of the
+-- One segment: a computed test of its two ends and its rounded slope (`fair-segment`), and the law that where the test passes the lookup's line is within 2 ^ -50 of the
 -- exact one at every Mach number on the segment (`on-line`). The account, in steps of 2 ^ -54: 12 for the slope over the whole segment, 1 for the difference of
 -- Machs, counted twice since no slope is above 2, 1 for the product, 1 for the sum; 16 in all.
 use mathlib.Core.Path.{_≡_, refl, sym, ap, _∙_}
 use mathlib.Core.Bool.{Bool, true, false, _&&_}
-use mathlib.Core.List.{List, [], _∷_}
 use Prim.Native.Nat.{ℕ, _+_, _-_, _*_, _≤_, _<_}
 use native.Mathlib.Nat.{le-trans, le-of-eq, lt-of-le-of-lt, lt-of-lt-of-le, mul-comm, mul-assoc, mul-left-comm, mul-add, add-mul, mul-le-mul-right, mul-le-mul-left, mul-lt-mul-of-pos-right, le-of-mul-le-mul-right}
 use native.Mathlib.Omega.{arith}
@@ -13,8 +12,8 @@ use lib.Ieee.Exact.{HasValue}
 use lib.Ieee.Fits.{and-l, and-r, down-pos}
 use Rattle.elementary.specs.Arithmetic.{_⊕_, _⊖_, _⊗_, _⊘_}
 use Rattle.elementary.specs.Nearest.{unitsOf}
-use Rattle.elementary.specs.Distance.{two^-, Counted, Apart, OffBy}
-use Rattle.elementary.proofs.Rounding.{apart-times, apart-cancel, apart-more, counts, product, plus, less, minus}
+use Rattle.elementary.specs.Distance.{two^-, Counts, Fraction, Apart, OffBy}
+use Rattle.elementary.proofs.Rounding.{apart-times, apart-cancel, apart-more, product, plus, less, minus}
 use Rattle.stoney.specs.Points.{Point}
 use Rattle.stoney.specs.Lookup.{line}
 use Rattle.stoney.specs.BrokenLine.{across, height, straight}
@@ -76,71 +75,62 @@ module _ (E D q R p : ℕ) (some : 0 < D) (inside : q ≤ D) (near : Apart (15 *
       let c = add-mul Y R q in
       record { up = omega arith; down = omega arith }
 
--- ---- the test
+-- ---- the test: a segment D wide that goes from the height Y to Y′
 
 -- the error of one operation
 abbrev E : ℕ
 E = two^- 54
 
-abbrev pub slope : Point → Point → Float
-slope p q = (q .drag ⊖ p .drag) ⊘ (q .mach ⊖ p .mach)
-
--- how far q is above p, or below it
-abbrev change : Point → Point → ℕ
-change p q = height q - height p + (height p - height q)
-
-abbrev width : Point → Point → ℕ
-width p q = across q - across p
+-- up or down
+abbrev change : ℕ → ℕ → ℕ
+change Y Y′ = Y′ - Y + (Y - Y′)
 
 -- the slope's sign is the line's, and a line that falls ends above 0
-abbrev right-way : Point → Point → Bool → Bool
-right-way p q false = leb (height p) (height q)
-right-way p q true = leb (height q) (height p) && leb (15 * E) (height q)
+abbrev right-way : ℕ → ℕ → Bool → Bool
+right-way Y Y′ false = leb Y Y′
+right-way Y Y′ true = leb Y′ Y && leb (15 * E) Y′
 
 -- narrower than 1 and below 1, not steeper than 2, and A / B times the width is the change, but for 12 steps of 2 ^ -54
-abbrev fair : Point → Point → ℕ → ℕ → Bool
-fair p q A B =
-    ltb (width p q) (two^- 0)
-    && (ltb (height p + height q + 16 * E) (two^- 0)
-    && (leb A (2 * B) && (leb (A * width p q) (B * change p q + 12 * (B * E)) && leb (B * change p q) (A * width p q + 12 * (B * E)))))
+abbrev fair : ℕ → ℕ → ℕ → ℕ → ℕ → Bool
+fair D Y Y′ A B =
+    ltb D (two^- 0)
+    && (ltb (Y + Y′ + 16 * E) (two^- 0)
+    && (leb A (2 * B) && (leb (A * D) (B * change Y Y′ + 12 * (B * E)) && leb (B * change Y Y′) (A * D + 12 * (B * E)))))
 
-abbrev pub fair-slope : Point → Point → Float → Bool
-fair-slope p q nan = false
-fair-slope p q (inf s) = false
-fair-slope p q (fin s n e) = right-way p q s && fair p q (n * up e) (down e)
+abbrev fair-slope : ℕ → ℕ → ℕ → Float → Bool
+fair-slope D Y Y′ nan = false
+fair-slope D Y Y′ (inf s) = false
+fair-slope D Y Y′ (fin s n e) = right-way Y Y′ s && fair D Y Y′ (n * up e) (down e)
 
--- the points that are left, each with the segment to its right
-abbrev pub fair-line : List Point → Bool
-fair-line [] = true
-fair-line (p ∷ []) = counts (p .mach) && counts (p .drag)
-fair-line (p ∷ q ∷ rest) = counts (p .mach) && counts (p .drag) && (fair-slope p q (slope p q) && fair-line (q ∷ rest))
+abbrev pub fair-segment : Point → Point → Bool
+fair-segment p q = fair-slope (across q - across p) (height p) (height q) ((q .drag ⊖ p .drag) ⊘ (q .mach ⊖ p .mach))
 
 -- ---- what it says
 
-record Fair (p q : Point) (A B : ℕ) : Type 0 where
-  narrow : width p q < two^- 0
-  low : height p + height q + 16 * E < two^- 0
+record Fair (D Y Y′ A B : ℕ) : Type 0 where
+  narrow : D < two^- 0
+  low : Y + Y′ + 16 * E < two^- 0
   flat : A ≤ 2 * B
-  near : Apart (12 * (B * E)) (A * width p q) (B * change p q)
+  near : Apart (12 * (B * E)) (A * D) (B * change Y Y′)
 
-is-fair : (p q : Point) (A B : ℕ) → T (fair p q A B) → Fair p q A B
-is-fair p q A B t =
-    let a = ltb (width p q) (two^- 0) in
-    let b = ltb (height p + height q + 16 * E) (two^- 0) in
+is-fair : (D Y Y′ A B : ℕ) → T (fair D Y Y′ A B) → Fair D Y Y′ A B
+is-fair D Y Y′ A B t =
+    let a = ltb D (two^- 0) in
+    let b = ltb (Y + Y′ + 16 * E) (two^- 0) in
     let c = leb A (2 * B) in
-    let d = leb (A * width p q) (B * change p q + 12 * (B * E)) in
-    let e = leb (B * change p q) (A * width p q + 12 * (B * E)) in
+    let d = leb (A * D) (B * change Y Y′ + 12 * (B * E)) in
+    let e = leb (B * change Y Y′) (A * D + 12 * (B * E)) in
     let u = and-r a (b && (c && (d && e))) t in
     let v = and-r b (c && (d && e)) u in
     let w = and-r c (d && e) v in
     record {
-      narrow = ltb→lt (width p q) (two^- 0) (and-l a (b && (c && (d && e))) t);
-      low = ltb→lt (height p + height q + 16 * E) (two^- 0) (and-l b (c && (d && e)) u);
+      narrow = ltb→lt D (two^- 0) (and-l a (b && (c && (d && e))) t);
+      low = ltb→lt (Y + Y′ + 16 * E) (two^- 0) (and-l b (c && (d && e)) u);
       flat = leb→le A (2 * B) (and-l c (d && e) v);
-      near = record { up = leb→le (A * width p q) (B * change p q + 12 * (B * E)) (and-l d e w); down = leb→le (B * change p q) (A * width p q + 12 * (B * E)) (and-r d e w) };
+      near = record { up = leb→le (A * D) (B * change Y Y′ + 12 * (B * E)) (and-l d e w); down = leb→le (B * change Y Y′) (A * D + 12 * (B * E)) (and-r d e w) };
     }
 
--- ---- the law (with no large number in sight of the arithmetic)
+-- ---- the law (first what it needs of linear arithmetic, with no large number in sight)
 
 low-change : (y z E W : ℕ) → y + z + 16 * E < W → z - y + (y - z) + 14 * E < W
 low-change y z E W h = omega arith
@@ -160,70 +150,64 @@ rises-to y z o = omega arith
 falls-to : (y z : ℕ) → z ≤ y → y ≡ z + (z - y + (y - z))
 falls-to y z o = omega arith
 
-module _ (p q : Point) (M : Float) (hM : Counted false M) (hx : Counted false (p .mach)) (hy : Counted false (p .drag)) (from : across p ≤ unitsOf M) (to : unitsOf M < across q) where
-  inside : unitsOf M - across p ≤ width p q
+-- from the point (x, y), which is (X, Y) in units, to (X′, Y′); M is m
+module _ (x y M : Float) (X X′ Y Y′ m : ℕ) (hM : Counts M false m) (hx : Counts x false X) (hy : Counts y false Y) (from : X ≤ m) (to : m < X′) where
+  inside : m - X ≤ X′ - X
   inside = omega arith
 
-  some : 0 < width p q
+  some : 0 < X′ - X
   some = omega arith
 
-  left : across q - unitsOf M ≡ width p q - (unitsOf M - across p)
+  left : X′ - m ≡ X′ - X - (m - X)
   left = omega arith
 
-  sixteen : 16 * (E * width p q) ≤ bound * width p q
-  sixteen = le-trans (le-of-eq (sym (mul-assoc 16 E (width p q)))) (mul-le-mul-right (width p q) (lit≤ tt))
+  sixteen : 16 * (E * (X′ - X)) ≤ bound * (X′ - X)
+  sixteen = le-trans (le-of-eq (sym (mul-assoc 16 E (X′ - X)))) (mul-le-mul-right (X′ - X) (lit≤ tt))
 
-  rise : (S : Float) (s : Bool) (A B : ℕ) → 0 < B → HasValue S s A B → Fair p q A B → let P = S ⊗ (M ⊖ p .mach) in Counted s P × Apart (15 * (E * width p q)) (unitsOf P * width p q) (change p q * (unitsOf M - across p))
+  rise : (S : Float) (s : Bool) (A B : ℕ) → 0 < B → HasValue S s A B → Fair (X′ - X) Y Y′ A B →
+      let P = S ⊗ (M ⊖ x) in
+      Counts P s (unitsOf P) × Apart (15 * (E * (X′ - X))) (unitsOf P * (X′ - X)) (change Y Y′ * (m - X))
   rise S s A B B+ v f =
-      let g = unitsOf M - across p in
-      let d = minus M (p .mach) hM hx from (lt-of-le-of-lt inside (f .narrow)) in
-      let u = unitsOf (M ⊖ p .mach) in
-      let r = product S (M ⊖ p .mach) s A B v (d .0) (reach E (width p q) g (change p q) A B u B+ inside (f .flat) (f .near) (d .1) (two^- 0) (low-change (height p) (height q) E (two^- 0) (f .low))) in
-      (r .number, risen E (width p q) g (change p q) A B u B+ inside (f .flat) (f .near) (d .1) (unitsOf (S ⊗ (M ⊖ p .mach))) (r .apart))
+      let d = minus M x m X hM hx from (lt-of-le-of-lt inside (f .narrow)) in
+      let u = unitsOf (M ⊖ x) in
+      let r = product S (M ⊖ x) s A B u v (d .number) (reach E (X′ - X) (m - X) (change Y Y′) A B u B+ inside (f .flat) (f .near) (d .apart) (two^- 0) (low-change Y Y′ E (two^- 0) (f .low))) in
+      (r .number, risen E (X′ - X) (m - X) (change Y Y′) A B u B+ inside (f .flat) (f .near) (d .apart) (unitsOf (S ⊗ (M ⊖ x))) (r .apart))
+
+  abbrev exact : Fraction
+  exact = record { over = Y * (X′ - m) + Y′ * (m - X); under = X′ - X }
 
   -- at the end of the 16 steps
-  landed : (r : Float) → Counted false r → Apart (16 * (E * width p q)) (unitsOf r * width p q) (height p * (width p q - (unitsOf M - across p)) + height q * (unitsOf M - across p))
-      → OffBy bound r (straight p q (unitsOf M))
+  landed : (r : Float) → Counts r false (unitsOf r) → Apart (16 * (E * (X′ - X))) (unitsOf r * (X′ - X)) (Y * (X′ - X - (m - X)) + Y′ * (m - X)) → OffBy bound r exact
   landed r hr a = record { some = some; number = hr; apart = apart-more sixteen (rw left a) }
 
-  on-rising : (P : Float) → Counted false P → height p ≤ height q → height p + height q + 16 * E < two^- 0
-      → Apart (15 * (E * width p q)) (unitsOf P * width p q) (change p q * (unitsOf M - across p)) → OffBy bound (p .drag ⊕ P) (straight p q (unitsOf M))
+  on-rising : (P : Float) → Counts P false (unitsOf P) → Y ≤ Y′ → Y + Y′ + 16 * E < two^- 0 → Apart (15 * (E * (X′ - X))) (unitsOf P * (X′ - X)) (change Y Y′ * (m - X)) → OffBy bound (y ⊕ P) exact
   on-rising P hP o low a =
-      let g = unitsOf M - across p in
-      let l = at-most E (width p q) g (change p q) (unitsOf P) some inside a in
-      let v = plus (p .drag) P hy hP (low-sum (height p) (height q) (unitsOf P) E (two^- 0) o l low) in
-      landed (p .drag ⊕ P) (v .0) (rw (rises-to (height p) (height q) o) (upwards E (width p q) g (change p q) (unitsOf P) some inside a (height p) (unitsOf (p .drag ⊕ P)) (v .1)))
+      let l = at-most E (X′ - X) (m - X) (change Y Y′) (unitsOf P) some inside a in
+      let v = plus y P Y (unitsOf P) hy hP (low-sum Y Y′ (unitsOf P) E (two^- 0) o l low) in
+      landed (y ⊕ P) (v .number) (rw (rises-to Y Y′ o) (upwards E (X′ - X) (m - X) (change Y Y′) (unitsOf P) some inside a Y (unitsOf (y ⊕ P)) (v .apart)))
 
-  on-falling : (P : Float) → Counted true P → height q ≤ height p → 15 * E ≤ height q → height p + height q + 16 * E < two^- 0
-      → Apart (15 * (E * width p q)) (unitsOf P * width p q) (change p q * (unitsOf M - across p)) → OffBy bound (p .drag ⊕ P) (straight p q (unitsOf M))
+  on-falling : (P : Float) → Counts P true (unitsOf P) → Y′ ≤ Y → 15 * E ≤ Y′ → Y + Y′ + 16 * E < two^- 0 → Apart (15 * (E * (X′ - X))) (unitsOf P * (X′ - X)) (change Y Y′ * (m - X)) → OffBy bound (y ⊕ P) exact
   on-falling P hP o above low a =
-      let g = unitsOf M - across p in
-      let l = at-most E (width p q) g (change p q) (unitsOf P) some inside a in
-      let under = stays-above (height p) (height q) (unitsOf P) E o above l in
-      let v = less (p .drag) P hy hP under (low-rest (height p) (height q) (unitsOf P) E (two^- 0) low) in
-      let e = falls-to (height p) (height q) o in
-      landed (p .drag ⊕ P) (v .0) (rw e (downwards E (width p q) g (change p q) (unitsOf P) some inside a (height q) (unitsOf (p .drag ⊕ P)) (rw e at under) (rw e at (v .1))))
+      let l = at-most E (X′ - X) (m - X) (change Y Y′) (unitsOf P) some inside a in
+      let under = stays-above Y Y′ (unitsOf P) E o above l in
+      let v = less y P Y (unitsOf P) hy hP under (low-rest Y Y′ (unitsOf P) E (two^- 0) low) in
+      let e = falls-to Y Y′ o in
+      landed (y ⊕ P) (v .number) (rw e (downwards E (X′ - X) (m - X) (change Y Y′) (unitsOf P) some inside a Y′ (unitsOf (y ⊕ P)) (rw e at under) (rw e at (v .apart))))
 
-  by-slope : (S : Float) → T (fair-slope p q S) → OffBy bound (p .drag ⊕ S ⊗ (M ⊖ p .mach)) (straight p q (unitsOf M))
+  by-slope : (S : Float) → T (fair-slope (X′ - X) Y Y′ S) → OffBy bound (y ⊕ S ⊗ (M ⊖ x)) exact
   by-slope nan t = absurd t
   by-slope (inf s) t = absurd t
   by-slope (fin false n e) t =
-      let A = n * up e in
-      let B = down e in
-      let o = leb→le (height p) (height q) (and-l (leb (height p) (height q)) (fair p q A B) t) in
-      let f = is-fair p q A B (and-r (leb (height p) (height q)) (fair p q A B) t) in
-      let r = rise (fin false n e) false A B (down-pos e) (refl, refl) f in
-      on-rising (fin false n e ⊗ (M ⊖ p .mach)) (r .0) o (f .low) (r .1)
+      let f = is-fair (X′ - X) Y Y′ (n * up e) (down e) (and-r (leb Y Y′) _ t) in
+      let r = rise (fin false n e) false (n * up e) (down e) (down-pos e) (refl, refl) f in
+      on-rising (fin false n e ⊗ (M ⊖ x)) (r .0) (leb→le Y Y′ (and-l (leb Y Y′) _ t)) (f .low) (r .1)
   by-slope (fin true n e) t =
-      let A = n * up e in
-      let B = down e in
-      let a = leb (height q) (height p) in
-      let b = leb (15 * E) (height q) in
-      let w = and-l (a && b) (fair p q A B) t in
-      let f = is-fair p q A B (and-r (a && b) (fair p q A B) t) in
-      let r = rise (fin true n e) true A B (down-pos e) (refl, refl) f in
-      on-falling (fin true n e ⊗ (M ⊖ p .mach)) (r .0) (leb→le (height q) (height p) (and-l a b w)) (leb→le (15 * E) (height q) (and-r a b w)) (f .low) (r .1)
+      let way = and-l (leb Y′ Y && leb (15 * E) Y′) _ t in
+      let f = is-fair (X′ - X) Y Y′ (n * up e) (down e) (and-r (leb Y′ Y && leb (15 * E) Y′) _ t) in
+      let r = rise (fin true n e) true (n * up e) (down e) (down-pos e) (refl, refl) f in
+      on-falling (fin true n e ⊗ (M ⊖ x)) (r .0) (leb→le Y′ Y (and-l (leb Y′ Y) _ way)) (leb→le (15 * E) Y′ (and-r (leb Y′ Y) _ way)) (f .low) (r .1)
 
-  pub on-line : T (fair-slope p q (slope p q)) → OffBy bound (line p q M .value) (straight p q (unitsOf M))
-  unfolding line
-  on-line t = by-slope (slope p q) t
+pub on-line : (p q : Point) (M : Float) (m : ℕ) → Counts M false m → Counts (p .mach) false (across p) → Counts (p .drag) false (height p) → across p ≤ m → m < across q
+    → T (fair-segment p q) → OffBy bound (line p q M .value) (straight p q m)
+unfolding line
+on-line p q M m hM hx hy from to t = by-slope (p .mach) (p .drag) M (across p) (across q) (height p) (height q) m hM hx hy from to ((q .drag ⊖ p .drag) ⊘ (q .mach ⊖ p .mach)) t
