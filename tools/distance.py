@@ -16,10 +16,12 @@ by operation. The line and the distance are whole numbers and fractions; nothing
 
 import argparse
 import ctypes
+import functools
 import math
 import pathlib
 import random
 import re
+import signal
 import sys
 from fractions import Fraction
 
@@ -57,8 +59,11 @@ def lookup(points, mach):
 
 
 def port_lookup(path):
-    """The same question to the compiled library."""
-    ask = ctypes.CDLL(path).cobalnis_nose_lookup
+    """The same question, with the nose's number, to the compiled library."""
+    try:
+        ask = ctypes.CDLL(str(pathlib.Path(path).resolve())).cobalnis_nose_lookup
+    except (OSError, AttributeError) as error:
+        sys.exit(f"distance.py: {error}")
     ask.argtypes = [ctypes.c_uint32, ctypes.c_double, ctypes.POINTER(ctypes.c_uint64)]
     ask.restype = ctypes.c_uint32
     words = (ctypes.c_uint64 * 3)()
@@ -138,7 +143,7 @@ def show_all(tables, answers, count):
                 sys.exit(f"distance.py: {name} is off the line at Mach {mach!r}")
         off, mach = worst(line, answer, count, random.Random(name))
         most = max(most, off)
-        print(f"{name:22} {len(points):6}   {float(off):.3e}    {float(off / BOUND):.4f}  {mach!r}")
+        print(f"{name:22} {len(points):6}   {float(off):.3e}    {float(off / BOUND):.4f}  {mach!r}", flush=True)
     print(f"at every tabled Mach, 0.8 included: 0; the worst of all: {float(most / BOUND):.4f} of 2^-50")
     if most > BOUND:
         sys.exit("distance.py: above the bound")
@@ -171,11 +176,11 @@ def main():
     given = parser.parse_args()
     tables = read_tables()
     names = list(tables)
-    ask = port_lookup(given.port) if given.port else None
-    answers = {
-        name: (lambda mach, place=place, name=name: ask(place, mach) if ask else lookup(tables[name], mach))
-        for place, name in enumerate(names)
-    }
+    if given.port:
+        ask = port_lookup(given.port)
+        answers = {name: functools.partial(ask, place) for place, name in enumerate(names)}
+    else:
+        answers = {name: functools.partial(lookup, points) for name, points in tables.items()}
     if given.nose is None:
         show_all(tables, answers, given.searched)
         return
@@ -188,4 +193,6 @@ def main():
 
 
 if __name__ == "__main__":
+    if hasattr(signal, "SIGPIPE"):
+        signal.signal(signal.SIGPIPE, signal.SIG_DFL)
     main()

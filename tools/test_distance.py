@@ -70,6 +70,11 @@ class One(unittest.TestCase):
             self.assertEqual(status, 0)
             self.assertIn(f"= {height}\n  apart 0\n", out)
 
+    def test_no_library(self):
+        status, out, errors = call("--port", "no_such.so", "VonKarman", "1")
+        self.assertEqual((status, out), (1, ""))
+        self.assertTrue(errors.startswith("distance.py: "))
+
     def test_wrong_words(self):
         for words in (("Cone", "1"), ("9", "1"), ("VonKarman",), ("VonKarman", "nan"), ("VonKarman", "inf"), ("--", "VonKarman", "-1")):
             status, out, errors = call(*words)

@@ -171,7 +171,8 @@ impl Nose {
         f64::from_bits(self.lookup(0.0)[2])
     }
 
-    /// Drag and slope between the points.
+    /// Drag and slope between the points. At a finite Mach number from 0 up the drag is within
+    /// 2^-50 of the exact broken line through the points, and on it at their Mach numbers.
     pub fn value_and_slope(self, mach: f64) -> (f64, f64) {
         let [value, slope, _] = self.lookup(mach);
         (f64::from_bits(value), f64::from_bits(slope))

@@ -1,4 +1,5 @@
--- The laws that the functions' proofs share, and laws on the fixed steps: the root and the floor are what they should be, and how large the steps' results are.
+-- The laws that the functions' proofs share, laws on the fixed steps: the root and the floor are what they should be, and how large the steps' results are; and how far
+-- a rounded result is from the exact one.
 pub mod Floats
 pub mod Classes
 pub mod Bits

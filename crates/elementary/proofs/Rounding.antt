@@ -71,6 +71,24 @@ counts-is (inf s) u t = absurd t
 counts-is (fin true m e) u t = absurd t
 counts-is (fin false m e) u t = (refl, eqb→eq (m * up e * two^- 0) (u * down e) t)
 
+-- ---- two fractions x / c and y / d of a and k units, in one denominator
+
+less-times : (a b k : ℕ) → (a - b) * k ≡ a * k - b * k
+less-times a b k = mul-comm (a - b) k ∙ mul-sub k a b ∙ rw (mul-comm k a, mul-comm k b)
+
+module _ (x y c d a k w : ℕ) (p : x * w ≡ a * c) (q : y * w ≡ k * d) where
+  first : x * d * w ≡ a * (c * d)
+  first = mul-right-comm x d w ∙ ap (λ (z : ℕ). z * d) p ∙ mul-assoc a c d
+
+  second : y * c * w ≡ k * (c * d)
+  second = mul-right-comm y c w ∙ ap (λ (z : ℕ). z * c) q ∙ mul-assoc k d c ∙ ap (λ (z : ℕ). k * z) (mul-comm d c)
+
+  added : (x * d + y * c) * w * 1 ≡ (a + k) * (c * d)
+  added = mul-one ((x * d + y * c) * w) ∙ add-mul (x * d) (y * c) w ∙ rw (first, second) (sym (add-mul a k (c * d)))
+
+  taken : (x * d - y * c) * w * 1 ≡ (a - k) * (c * d)
+  taken = mul-one ((x * d - y * c) * w) ∙ less-times (x * d) (y * c) w ∙ rw (first, second) (sym (less-times a k (c * d)))
+
 -- ---- the order is that of the units
 
 ltb-times : (a b k : ℕ) → 0 < k → ltb (a * k) (b * k) ≡ ltb a b
@@ -88,13 +106,12 @@ less-than (fin true m e) y a k h g = absurd (true≢false (h .0))
 less-than (fin false m e) nan a k h g = absurd g
 less-than (fin false m e) (inf s) a k h g = absurd g
 less-than (fin false m e) (fin true n d) a k h g = absurd (true≢false (g .0))
-less-than (fin false m e) (fin false n d) a k h g = between (m * up e) (n * up d) (down e) (down d) a k (two^- 0) (down-pos e) (down-pos d) (pow-pos 1074) (h .1) (g .1)
-  where
-    between : (a b c d x y w : ℕ) → 0 < c → 0 < d → 0 < w → a * w ≡ x * c → b * w ≡ y * d → ltb (a * d) (b * c) ≡ ltb x y
-    between a b c d x y w C D W p q =
-        let l : a * d * w ≡ x * (c * d) = mul-right-comm a d w ∙ ap (λ (z : ℕ). z * d) p ∙ mul-assoc x c d in
-        let r : b * c * w ≡ y * (c * d) = mul-right-comm b c w ∙ ap (λ (z : ℕ). z * c) q ∙ mul-assoc y d c ∙ ap (λ (z : ℕ). y * z) (mul-comm d c) in
-        sym (ltb-times (a * d) (b * c) w W) ∙ rw (l, r) (ltb-times x y (c * d) (mul-pos C D))
+less-than (fin false m e) (fin false n d) a k h g =
+    let x = m * up e in
+    let y = n * up d in
+    let one = two^- 0 in
+    sym (ltb-times (x * down d) (y * down e) one (pow-pos 1074))
+    ∙ rw (first x y (down e) (down d) a k one (h .1) (g .1), second x y (down e) (down d) a k one (h .1) (g .1)) (ltb-times a k (down e * down d) (mul-pos (down-pos e) (down-pos d)))
 
 -- ---- the nearest whole number is at most a half away
 
@@ -141,6 +158,7 @@ under g n c w e C E h k =
     let l : g ≤ w + e = le-of-mul-le-mul-right {k = c} (omega arith) C in
     omega arith
 
+-- the exact n / d, as n × 2 ^ 1074 / d units
 pub rounded : (s : Bool) (n d : ℕ) → 0 < d → n < d → Rounded (round binary64 s n d) s (n * two^- 0) d
 rounded s n d D h =
     let one = two^- 0 in
@@ -188,23 +206,6 @@ product (fin t m e) (fin u n d) s a b k h g l =
 
 -- ---- sums and differences
 
-less-times : (a b k : ℕ) → (a - b) * k ≡ a * k - b * k
-less-times a b k = mul-comm (a - b) k ∙ mul-sub k a b ∙ rw (mul-comm k a, mul-comm k b)
-
--- x / c and y / d are a and k units
-module _ (x y c d a k w : ℕ) (p : x * w ≡ a * c) (q : y * w ≡ k * d) where
-  first : x * d * w ≡ a * (c * d)
-  first = mul-right-comm x d w ∙ ap (λ (z : ℕ). z * d) p ∙ mul-assoc a c d
-
-  second : y * c * w ≡ k * (c * d)
-  second = mul-right-comm y c w ∙ ap (λ (z : ℕ). z * c) q ∙ mul-assoc k d c ∙ ap (λ (z : ℕ). k * z) (mul-comm d c)
-
-  added : (x * d + y * c) * w * 1 ≡ (a + k) * (c * d)
-  added = mul-one ((x * d + y * c) * w) ∙ add-mul (x * d) (y * c) w ∙ rw (first, second) (sym (add-mul a k (c * d)))
-
-  taken : (x * d - y * c) * w * 1 ≡ (a - k) * (c * d)
-  taken = mul-one ((x * d - y * c) * w) ∙ less-times (x * d) (y * c) w ∙ rw (first, second) (sym (less-times a k (c * d)))
-
 -- x is rounded from a whole number of units
 pub record RoundedWhole (x : Float) (a : ℕ) : Type 0 where
   pub number : Counts x false (unitsOf x)
@@ -250,7 +251,7 @@ minus x (inf s) a k h g o l = absurd g
 minus x (fin true n d) a k h g o l = absurd (true≢false (g .0))
 minus x (fin false n d) a k h g o l = less x (fin true n d) a k h (refl, g .1) o l
 
--- ---- what a distance says
+-- ---- what a distance says (`OffBy`)
 
 -- no distance: the number is the fraction
 pub no-distance : (x : Float) (f : Fraction) → OffBy 0 x f → HasValue x false (f .over) (f .under * two^- 0)

@@ -24,7 +24,7 @@ pub record Apart (e x y : ℕ) : Type 0 where
   pub up : x ≤ y + e
   pub down : y ≤ x + e
 
--- x is a number from +0 up, and at most e units from the fraction f of a unit: | x - over / under | ≤ e, multiplied by `under`, which is above zero
+-- x is a number from +0 up, and at most e units from over / under units: | x - over / under | ≤ e, with both sides times `under`, which is above zero
 pub record OffBy (e : ℕ) (x : Float) (f : Fraction) : Type 0 where
   pub some : 0 < f .under
   pub number : Counts x false (unitsOf x)

@@ -1,5 +1,5 @@
 -- The definitions of the crate `elementary`: the notation, the constants, a float taken apart, IEEE 754's classes, the fixed steps (docs/REFERENCE.md, Fixed steps), tests on
--- floats, their order, when two are one, and what a root is.
+-- floats, their order, when two are one, what a root is, and how far a float is from a fraction.
 pub mod Arithmetic
 pub mod Constants
 pub mod Split

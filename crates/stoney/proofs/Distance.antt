@@ -3,7 +3,7 @@
 use mathlib.Core.Path.{_≡_, refl, sym, ap, _∙_, subst}
 use mathlib.Core.Bool.{Bool, true, false, _&&_, true≢false}
 use mathlib.Core.List.{List, [], _∷_}
-use Prim.Native.Nat.{ℕ, zero, suc, _+_, _*_, _≤_, _<_}
+use Prim.Native.Nat.{ℕ, zero, suc, _+_, _*_, _^_, _≤_, _<_}
 use native.Mathlib.Nat.{zero-mul, mul-one, mul-pos, zero-lt-suc, le-of-suc-le-suc, not-suc-le-zero}
 use native.Mathlib.Omega.{arith}
 use lib.Dec.{T, ltb, eqb, eqb→eq, ltb→lt, lit<}
@@ -18,10 +18,11 @@ use Rattle.elementary.specs.Arithmetic.{_≺_, _≼_}
 use Rattle.elementary.specs.Constants.{0·0, 0·8}
 use Rattle.elementary.specs.Order.{not-above}
 use Rattle.elementary.specs.Nearest.{unitsOf}
-use Rattle.elementary.specs.Distance.{Counts, Apart, OffBy}
+use Rattle.elementary.specs.Distance.{two^-, Counts, Apart, OffBy}
 use Rattle.elementary.proofs.Ranges.{reaches, positive-from}
 use Rattle.elementary.proofs.Rounding.{units-are, no-units, held-counts, positive-counts, counts, counts-is, less-than}
 use Rattle.stoney.specs.declared.StoneyNose.{StoneyNose}
+use Rattle.stoney.specs.declared.StoneyNose.the-variants.{VonKarman}
 use Rattle.stoney.specs.Tables.{noses}
 use Rattle.stoney.specs.Points.{Point, points, no-point, every, holds-at}
 use Rattle.stoney.specs.Lookup.{line, before, walk, lookup, valueAndSlope}
@@ -61,11 +62,19 @@ all-on-corners : T (every (λ nose. on-corners nose (corners nose)) noses)
 unfolding valueAndSlope lookup walk before line brokenLine points ofBits round sum neg add sub mul div lt eq le
 all-on-corners = tt
 
+-- docs/DISTANCE.md, One segment by hand: half way between two points of the von Kármán nose the line is 12768605663520831 / 2 ^ 57 high, and the lookup is 1 / 2 ^ 57 off
+by-hand :
+    let M = round binary64 false 145 100 in
+    let f = brokenLine VonKarman M in
+    T (eqb (f .over * 2 ^ 57) (12768605663520831 * (f .under * two^- 0)) && counts (valueAndSlope VonKarman M .value) (12768605663520832 * two^- 57))
+unfolding valueAndSlope lookup walk before line brokenLine points ofBits round sum neg add sub mul div lt eq le
+by-hand = tt
+
 -- ---- no distance at a corner
 
 module _ (nose : StoneyNose) where
-  no-distance : (p : Point) → T (on-corner nose p) → OffBy 0 (valueAndSlope nose (p .mach) .value) (brokenLine nose (p .mach))
-  no-distance p t =
+  at-corner : (p : Point) → T (on-corner nose p) → OffBy 0 (valueAndSlope nose (p .mach) .value) (brokenLine nose (p .mach))
+  at-corner p t =
       let v = valueAndSlope nose (p .mach) .value in
       let f = brokenLine nose (p .mach) in
       let u = and-r (ltb 0 (f .under)) (counts v (unitsOf v) && eqb (unitsOf v * f .under) (f .over)) t in
@@ -79,7 +88,7 @@ module _ (nose : StoneyNose) where
 
   at-each : (ps : List Point) (k : ℕ) → T (on-corners nose ps) → k < length ps → let M = getD ps k no-point .mach in OffBy 0 (valueAndSlope nose M .value) (brokenLine nose M)
   at-each [] k t h = absurd (not-suc-le-zero h)
-  at-each (p ∷ ps) zero t h = no-distance p (and-l (on-corner nose p) (on-corners nose ps) t)
+  at-each (p ∷ ps) zero t h = at-corner p (and-l (on-corner nose p) (on-corners nose ps) t)
   at-each (p ∷ ps) (suc k) t h = at-each ps k (and-r (on-corner nose p) (on-corners nose ps) t) (le-of-suc-le-suc h)
 
 -- ---- along the walk
