@@ -133,9 +133,17 @@ def worst(line, answer, count, source):
     return found
 
 
+def rounded_slope(line):
+    """Of all segments the slope's largest error over the width, in steps of 2^-54, and the steepest."""
+    slopes = [(left, right, (right[1] - left[1]) / (right[0] - left[0])) for left, right in zip(line, line[1:])]
+    off = max(abs(Fraction(s) * (Fraction(b[0]) - Fraction(a[0])) - (Fraction(b[1]) - Fraction(a[1]))) for a, b, s in slopes)
+    return off * 2**54, max(abs(s) for _, _, s in slopes)
+
+
 def show_all(tables, answers, count):
     print("nose                   points  worst error  of 2^-50  at Mach")
     most = Fraction(0)
+    slopes = [rounded_slope(corners(points)) for points in tables.values()]
     for name, points in tables.items():
         line, answer = corners(points), answers[name]
         for mach in on_the_line(line):
@@ -145,6 +153,7 @@ def show_all(tables, answers, count):
         most = max(most, off)
         print(f"{name:22} {len(points):6}   {float(off):.3e}    {float(off / BOUND):.4f}  {mach!r}", flush=True)
     print(f"at every tabled Mach, 0.8 included: 0; the worst of all: {float(most / BOUND):.4f} of 2^-50")
+    print(f"a rounded slope over its segment: at most {float(max(slopes)[0]):.3f} × 2^-54; the steepest: {max(s for _, s in slopes):.3f}")
     if most > BOUND:
         sys.exit("distance.py: above the bound")
 

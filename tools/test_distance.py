@@ -87,8 +87,9 @@ class All(unittest.TestCase):
         status, out, _ = call("--searched", "100")
         self.assertEqual(status, 0)
         lines = out.splitlines()
-        self.assertEqual([line.split()[0] for line in lines[1:-1]], list(distance.read_tables()))
-        self.assertTrue(lines[-1].startswith("at every tabled Mach, 0.8 included: 0; "))
+        self.assertEqual([line.split()[0] for line in lines[1:-2]], list(distance.read_tables()))
+        self.assertTrue(lines[-2].startswith("at every tabled Mach, 0.8 included: 0; "))
+        self.assertEqual(lines[-1], "a rounded slope over its segment: at most 0.106 × 2^-54; the steepest: 1.074")
 
 
 if __name__ == "__main__":
