@@ -1,8 +1,8 @@
 -- `splitOf` speaks of a float's value, and the code of its 64 bits, class by class: both take the float apart alike (`split-class`).
 use mathlib.Core.Path.{_≡_, refl, sym, ap, _∙_, subst, subst₂}
-use mathlib.Core.Bool.{Bool, cond, _&&_}
+use mathlib.Core.Bool.{Bool, false, cond, _&&_}
 use Prim.Native.Nat.{ℕ, zero, suc, _+_, _-_, _*_, _/_, _%_, _^_, _≤_, _<_}
-use native.Mathlib.Nat.{mul-assoc, mul-comm, mul-one, mul-div-cancel, div-lt-iff-lt-mul, le-div-iff-mul-le, lt-of-lt-of-le, lt-of-not-le, not-le-of-lt, le-of-suc-le-suc, lt-irrefl, le-antisymm, mul-right-comm, le-of-eq, mul-le-mul-right, mul-lt-mul-of-pos-right, lt-of-mul-lt-mul-right, mul-pos, zero-lt-suc}
+use native.Mathlib.Nat.{mul-assoc, mul-comm, mul-one, zero-mul, zero-div, mul-div-cancel, div-lt-iff-lt-mul, le-div-iff-mul-le, lt-of-lt-of-le, lt-of-not-le, not-le-of-lt, le-of-suc-le-suc, lt-irrefl, le-antisymm, mul-right-comm, le-of-eq, mul-le-mul-right, mul-lt-mul-of-pos-right, lt-of-mul-lt-mul-right, mul-pos, zero-lt-suc}
 use native.Mathlib.Omega.{arith}
 use lib.IntN.{ℤ, pos, negsuc}
 use lib.Dec.{T, leb, ltb, eqb, ltb→lt, leb→le}
@@ -19,6 +19,7 @@ use Rattle.elementary.specs.declared.class.FloatClass.the-variants.{Zero
 use Rattle.elementary.specs.declared.split.Parts.the-variants.{Finite}
 use Rattle.elementary.specs.Classes.{signBit, exponentField, significandField, InClass, Stands, splitClass}
 use Rattle.elementary.specs.Split.{units, normalised, splitOf, Taken}
+use Rattle.elementary.specs.Nearest.{unitsOf}
 use Rattle.elementary.proofs.Classes.{field-narrow, stands, no-zero}
 
 abbrev pub shift : ℕ → ℕ
@@ -88,6 +89,15 @@ shape l m (negsuc k) h =
     let r : l - suc k + suc k ≡ l = back l (suc k) (exponent-le (suc k) l h) in
     (l - suc k, rw (mul-one m, mul-assoc, ← pow-add 2 (l - suc k) (suc k), r))
 
+-- a float that is u units has that many
+pub units-are : (x : Float) (s : Bool) (u : ℕ) → HasValue x s u (2 ^ 1074) → unitsOf x ≡ u
+units-are nan s u v = absurd v
+units-are (inf t) s u v = absurd v
+units-are (fin t m e) s u v = ap (λ (a : ℕ). a / down e) (v .1) ∙ mul-div-cancel u (down-pos e)
+
+pub no-units : (e : ℤ) → units 0 e ≡ 0
+no-units e = rw (zero-mul (up e), zero-mul (2 ^ 1074)) (zero-div (down e))
+
 -- x is n units: m × 2 ^ j for some j, nothing is lost by the division, and n is above zero and below 2 ^ 2098
 pub record Units (m : ℕ) (e : ℤ) (n : ℕ) : Type 0 where
   pub exponent : ℕ
@@ -99,7 +109,7 @@ pub record Units (m : ℕ) (e : ℤ) (n : ℕ) : Type 0 where
 pub in-units : (m : ℕ) (e : ℤ) → Held (suc m) e → Units (suc m) e (units (suc m) e)
 in-units m e h =
     let z = shape 1074 (suc m) e (h .fine) in
-    let w : units (suc m) e ≡ suc m * 2 ^ z .0 = ap (λ (a : ℕ). a / down e) (z .1) ∙ mul-div-cancel (suc m * 2 ^ z .0) (down-pos e) in
+    let w : units (suc m) e ≡ suc m * 2 ^ z .0 = units-are (fin false (suc m) e) false (suc m * 2 ^ z .0) (refl, z .1) in
     let x : suc m * up e * 2 ^ 1074 ≡ units (suc m) e * down e = z .1 ∙ ap (λ (a : ℕ). a * down e) (sym w) in
     record {
       exponent = z .0;
@@ -129,7 +139,7 @@ split-units nan s n v p = absurd v
 split-units (inf t) s n v p = absurd v
 split-units (fin t zero e) s n v p = absurd (no-zero t s e n v p)
 split-units (fin t (suc m) e) s n v p =
-    let u : units (suc m) e ≡ n = ap (λ (a : ℕ). a / down e) (v .1) ∙ mul-div-cancel n (down-pos e) in
+    let u : units (suc m) e ≡ n = units-are (fin t (suc m) e) s n v in
     rw (v .0, u)
 
 -- g, of 53 digits, with k places below it

@@ -4,7 +4,7 @@ use mathlib.Core.Path.{_≡_, refl, sym, ap, _∙_, subst}
 use mathlib.Core.Logic.{inl, inr}
 use mathlib.Core.Bool.{Bool, true, false, cond}
 use Prim.Native.Nat.{ℕ, zero, suc, _+_, _-_, _*_, _/_, _%_, _^_, _≤_, _<_}
-use native.Mathlib.Nat.{mul-assoc, mul-comm, mul-right-comm, one-mul, zero-mul, zero-div, add-mul, mul-add, mul-mul-mul-comm, mul-pos, mul-le-mul, mul-le-mul-right, mul-le-mul-left, mul-lt-mul-of-pos-right, lt-of-mul-lt-mul-right, le-trans, le-of-eq, le-of-lt, lt-of-lt-of-le, lt-of-le-of-lt, mul-div-cancel, zero-lt-suc, eq-zero-or-pos, not-le-of-lt, lt-of-not-le}
+use native.Mathlib.Nat.{mul-assoc, mul-comm, mul-right-comm, one-mul, zero-mul, add-mul, mul-add, mul-mul-mul-comm, mul-pos, mul-le-mul, mul-le-mul-right, mul-le-mul-left, mul-lt-mul-of-pos-right, lt-of-mul-lt-mul-right, le-trans, le-of-eq, le-of-lt, lt-of-lt-of-le, lt-of-le-of-lt, mul-div-cancel, zero-lt-suc, eq-zero-or-pos, not-le-of-lt, lt-of-not-le}
 use native.Mathlib.Decide.{decLe, decLt, ℕ-discrete}
 use native.Mathlib.Omega.{arith}
 use lib.IntN.{ℤ}
@@ -23,7 +23,7 @@ use Rattle.elementary.specs.Split.{units, normalised, splitOf, two^, Tak
 use Rattle.elementary.specs.Root.{rootOf, nearestRoot}
 use Rattle.elementary.specs.Steps.{SQRT, sqrtSteps}
 use Rattle.elementary.specs.Nearest.{unitsOf, NearestRoot}
-use Rattle.elementary.proofs.Bits.{held, in-units, taken-units}
+use Rattle.elementary.proofs.Bits.{no-units, held, in-units, taken-units}
 use Rattle.elementary.proofs.Root.{Rooted, rooted, nearest-up, nearest-down}
 use Rattle.elementary.proofs.Value.{normal-exact}
 
@@ -237,7 +237,7 @@ module _ (s r k : ℕ) (n : Near s r) (full : 2 ^ 52 ≤ r) (lo : 2 ^ 52 * 2 ^ 5
 -- ---- any number that binary64 holds, from 0 up, is m × 2 ^ i units with m below 2 ^ 53
 
 units-of : (m : ℕ) (e : ℤ) → T (fits binary64 (fin false m e)) → (a : ℕ) × (i : ℕ) × (a < 2 ^ 53) × (units m e ≡ a * 2 ^ i)
-units-of zero e h = (0, 0, lit< tt, ap (λ (a : ℕ). a * 2 ^ 1074 / down e) (zero-mul (up e)) ∙ ap (λ (a : ℕ). a / down e) (zero-mul (2 ^ 1074)) ∙ zero-div (down e))
+units-of zero e h = (0, 0, lit< tt, no-units e)
 units-of (suc m) e h = let c = held false m e h in let u = in-units m e c in (suc m, u .exponent, c .narrow, u .whole)
 
 doubled : (b : Bool) (g : ℕ) → 2 ^ 52 ≤ g → g < 2 ^ 53 → (2 ^ 52 ≤ cond b g (2 * g)) × (cond b g (2 * g) + 2 ≤ 2 ^ 54)

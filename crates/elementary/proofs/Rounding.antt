@@ -3,7 +3,7 @@
 use mathlib.Core.Path.{_≡_, refl, sym, ap, _∙_, subst}
 use mathlib.Core.Bool.{Bool, true, false, not, _&&_, true≢false, false≢true}
 use Prim.Native.Nat.{ℕ, zero, suc, _+_, _-_, _*_, _/_, _%_, _^_, _≤_, _<_, compare, Ordering, Ordering·lt, Ordering·eq, Ordering·gt}
-use native.Mathlib.Nat.{le-trans, le-antisymm, le-of-eq, lt-of-lt-of-le, lt-of-le-of-lt, mul-comm, mul-assoc, mul-left-comm, mul-right-comm, mul-one, one-mul, zero-mul, zero-div, add-mul, mul-sub, mul-pos, mul-le-mul-right, mul-lt-mul-of-pos-right, lt-of-mul-lt-mul-right, le-of-mul-le-mul-right, mul-div-cancel, div-add-mod', div-lt-iff-lt-mul, mod-lt}
+use native.Mathlib.Nat.{le-trans, le-antisymm, le-of-eq, lt-of-lt-of-le, lt-of-le-of-lt, mul-comm, mul-assoc, mul-left-comm, mul-right-comm, mul-one, one-mul, zero-mul, add-mul, mul-sub, mul-pos, mul-le-mul-right, mul-lt-mul-of-pos-right, lt-of-mul-lt-mul-right, le-of-mul-le-mul-right, div-add-mod', div-lt-iff-lt-mul, mod-lt}
 use native.Mathlib.Omega.{arith}
 use lib.IntN.{ℤ}
 use lib.Dec.{T, ltb, eqb, isLe, isEq, leb→le, nleb→lt, eqb→eq, lit<, lit≤}
@@ -19,7 +19,7 @@ use borrow.Author.Tests.{ltb-true, ltb-false, lt-ltb, le-ltb}
 use Rattle.elementary.specs.Arithmetic.{_⊕_, _⊖_, _⊗_, _≺_}
 use Rattle.elementary.specs.Nearest.{unitsOf}
 use Rattle.elementary.specs.Distance.{two^-, Counts, Fraction, Apart, OffBy}
-use Rattle.elementary.proofs.Bits.{held, in-units}
+use Rattle.elementary.proofs.Bits.{units-are, no-units, held, in-units}
 
 -- ---- apart, times a number and without it
 
@@ -40,14 +40,6 @@ apart-more l h = record { up = omega (arith, h .up); down = omega (arith, h .dow
 
 -- ---- a number in units
 
-pub units-are : (x : Float) (s : Bool) (u : ℕ) → Counts x s u → unitsOf x ≡ u
-units-are nan s u v = absurd v
-units-are (inf t) s u v = absurd v
-units-are (fin t m e) s u v = ap (λ (a : ℕ). a / down e) (v .1) ∙ mul-div-cancel u (down-pos e)
-
-pub no-units : (e : ℤ) → 0 * up e * 2 ^ 1074 / down e ≡ 0
-no-units e = rw (zero-mul (up e), zero-mul (2 ^ 1074)) (zero-div (down e))
-
 -- every finite number that binary64 holds is a whole number of units
 pub held-counts : (s : Bool) (m : ℕ) (e : ℤ) → T (fits binary64 (fin s m e)) → Counts (fin s m e) s (unitsOf (fin s m e))
 held-counts s zero e h = (refl, rw (no-units e, zero-mul (up e), zero-mul (down e)) (zero-mul (two^- 0)))
@@ -59,7 +51,7 @@ positive-counts (inf s) p h = absurd p
 positive-counts (fin true m e) p h = absurd p
 positive-counts (fin false m e) p h = held-counts false m e h
 
--- the same as a test that computes
+-- `Counts`, as a test that computes
 abbrev pub counts : Float → ℕ → Bool
 counts nan u = false
 counts (inf s) u = false
@@ -146,10 +138,14 @@ kept-apart p j n c C h =
 
 -- ---- a rounded fraction below 1
 
+-- by how much it can be off
+abbrev pub half-step : ℕ
+half-step = two^- 54
+
 -- x is a / b units with the sign s, rounded
 pub record Rounded (x : Float) (s : Bool) (a b : ℕ) : Type 0 where
   pub number : Counts x s (unitsOf x)
-  pub apart : Apart (two^- 54 * b) (unitsOf x * b) a
+  pub apart : Apart (half-step * b) (unitsOf x * b) a
 
 -- what is near a number below w is at most 2 w
 under : (g n c w e : ℕ) → 0 < c → e ≤ w → n < w * c → g * c ≤ n + e * c → g ≤ 2 * w
@@ -166,8 +162,8 @@ rounded s n d D h =
     let x = round binary64 s n d in
     let l : a < one * d = lt-of-lt-of-le (mul-lt-mul-of-pos-right h (pow-pos 1074)) (le-of-eq (mul-comm d one)) in
     let g = kept 53 a d * 2 ^ drop 53 a d in
-    let near : Apart (two^- 54 * d) (g * d) a = kept-apart 53 1020 a d D l in
-    let fine = lt-of-le-of-lt (under g a d one (two^- 54) D (lit≤ tt) l (near .up)) (lit< tt) in
+    let near : Apart (half-step * d) (g * d) a = kept-apart 53 1020 a d D l in
+    let fine = lt-of-le-of-lt (under g a d one (half-step) D (lit≤ tt) l (near .up)) (lit< tt) in
     let v : Counts x s g = rw (round-is binary64 s n d) (units-val binary64 s (kept 53 a d) (drop 53 a d) fine) in
     record { number = rw (units-are x s g v) v; apart = rw (units-are x s g v) near }
 
@@ -180,7 +176,7 @@ module _ (s : Bool) (n d a b : ℕ) (D : 0 < d) (e : n * two^- 0 * b ≡ a * d) 
       let l : n * (one * b) < d * (one * b) =
       lt-of-le-of-lt (le-of-eq (sym (mul-assoc n one b) ∙ e)) (lt-of-lt-of-le (mul-lt-mul-of-pos-right h D) (le-of-eq (mul-comm (b * one) d ∙ ap (λ (z : ℕ). d * z) (mul-comm b one)))) in
       let r = rounded s n d D (lt-of-mul-lt-mul-right (one * b) l) in
-      record { number = r .number; apart = apart-cancel d (two^- 54 * b) (u * b) a D (rw (mul-right-comm (two^- 54) b d, mul-right-comm u b d, ← e) (apart-times b (r .apart))) }
+      record { number = r .number; apart = apart-cancel d (half-step * b) (u * b) a D (rw (mul-right-comm (half-step) b d, mul-right-comm u b d, ← e) (apart-times b (r .apart))) }
 
 -- ---- the product of a fraction and a number in units
 
@@ -209,7 +205,7 @@ product (fin t m e) (fin u n d) s a b k h g l =
 -- x is rounded from a whole number of units
 pub record RoundedWhole (x : Float) (a : ℕ) : Type 0 where
   pub number : Counts x false (unitsOf x)
-  pub apart : Apart (two^- 54) (unitsOf x) a
+  pub apart : Apart (half-step) (unitsOf x) a
 
 whole : {x : Float} {a : ℕ} → Rounded x false a 1 → RoundedWhole x a
 whole {x} r = record { number = r .number; apart = rw (mul-one (unitsOf x)) at (r .apart) }

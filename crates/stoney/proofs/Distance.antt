@@ -19,8 +19,9 @@ use Rattle.elementary.specs.Constants.{0·0, 0·8}
 use Rattle.elementary.specs.Order.{not-above}
 use Rattle.elementary.specs.Nearest.{unitsOf}
 use Rattle.elementary.specs.Distance.{two^-, Counts, Apart, OffBy}
+use Rattle.elementary.proofs.Bits.{units-are, no-units}
 use Rattle.elementary.proofs.Ranges.{reaches, positive-from}
-use Rattle.elementary.proofs.Rounding.{units-are, no-units, held-counts, positive-counts, counts, counts-is, less-than}
+use Rattle.elementary.proofs.Rounding.{held-counts, positive-counts, counts, counts-is, less-than}
 use Rattle.stoney.specs.declared.StoneyNose.{StoneyNose}
 use Rattle.stoney.specs.declared.StoneyNose.the-variants.{VonKarman}
 use Rattle.stoney.specs.Tables.{noses}

@@ -13,7 +13,7 @@ use lib.Ieee.Fits.{and-l, and-r, down-pos}
 use Rattle.elementary.specs.Arithmetic.{_⊕_, _⊖_, _⊗_, _⊘_}
 use Rattle.elementary.specs.Nearest.{unitsOf}
 use Rattle.elementary.specs.Distance.{two^-, Counts, Fraction, Apart, OffBy}
-use Rattle.elementary.proofs.Rounding.{apart-times, apart-cancel, apart-more, product, plus, less, minus}
+use Rattle.elementary.proofs.Rounding.{apart-times, apart-cancel, apart-more, half-step, product, plus, less, minus}
 use Rattle.stoney.specs.Points.{Point}
 use Rattle.stoney.specs.Lookup.{line}
 use Rattle.stoney.specs.BrokenLine.{across, height, straight}
@@ -30,22 +30,23 @@ module _ (E D q R A B d : ℕ) (some : 0 < B) (inside : q ≤ D) (flat : A ≤ 2
   reach W h =
       let a : A * d ≤ A * (D + E) = mul-le-mul-left A (omega arith) in
       let b = mul-add A D E in
-      let c : (R + 14 * E) * B ≡ B * R + 14 * (B * E) = simp (add-mul, mul-assoc, mul-comm, mul-left-comm) in
+      let c : (R + 14 * E) * B ≡ B * R + 14 * (B * E) = simp (add-mul, mul-assoc, mul-comm) in
       let e : A * d ≤ (R + 14 * E) * B = omega (arith, steep) in
       lt-of-le-of-lt e (lt-of-lt-of-le (mul-lt-mul-of-pos-right h some) (le-of-eq (mul-comm W B)))
 
+  -- p is the product, then with the exact way for d, then with the exact slope
   risen : (p : ℕ) → Apart (E * B) (p * B) (A * d) → Apart (15 * (E * D)) (p * D) (R * q)
   risen p product =
-      let one = apart-times D product in
-      let two = apart-times D (apart-times A gap) in
-      let three = apart-times q fair in
+      let by-product = apart-times D product in
+      let by-way = apart-times D (apart-times A gap) in
+      let by-slope = apart-times q fair in
       let a : p * D * B ≡ p * B * D = simp (mul-assoc, mul-comm, mul-left-comm) in
       let b : d * A * D ≡ A * d * D = simp (mul-assoc, mul-comm, mul-left-comm) in
       let c : q * A * D ≡ A * D * q = simp (mul-assoc, mul-comm, mul-left-comm) in
       let f : R * q * B ≡ B * R * q = simp (mul-assoc, mul-comm, mul-left-comm) in
-      let g : 15 * (E * D) * B ≡ 15 * (E * B * D) = simp (mul-assoc, mul-comm, mul-left-comm) in
-      let h : E * A * D ≤ 2 * (E * B * D) = le-trans (mul-le-mul-right D (le-trans (le-of-eq (mul-comm E A)) steep)) (le-of-eq (simp (mul-assoc, mul-comm, mul-left-comm))) in
-      let i : 12 * (B * E) * q ≤ 12 * (E * B * D) = le-trans (mul-le-mul-left (12 * (B * E)) inside) (le-of-eq (simp (mul-assoc, mul-comm, mul-left-comm))) in
+      let g : 15 * (E * D) * B ≡ 15 * (E * B * D) = simp (mul-assoc, mul-comm) in
+      let h : E * A * D ≤ 2 * (E * B * D) = le-trans (mul-le-mul-right D (le-trans (le-of-eq (mul-comm E A)) steep)) (le-of-eq (simp (mul-assoc, mul-comm))) in
+      let i : 12 * (B * E) * q ≤ 12 * (E * B * D) = le-trans (mul-le-mul-left (12 * (B * E)) inside) (le-of-eq (simp (mul-assoc, mul-comm))) in
       apart-cancel B (15 * (E * D)) (p * D) (R * q) some (record { up = omega arith; down = omega arith })
 
 -- from the product p to the sum
@@ -77,11 +78,10 @@ module _ (E D q R p : ℕ) (some : 0 < D) (inside : q ≤ D) (near : Apart (15 *
 
 -- ---- the test: a segment D wide that goes from the height Y to Y′
 
--- the error of one operation
 abbrev E : ℕ
-E = two^- 54
+E = half-step
 
--- up or down
+-- how far from Y to Y′, up or down
 abbrev change : ℕ → ℕ → ℕ
 change Y Y′ = Y′ - Y + (Y - Y′)
 
@@ -164,10 +164,12 @@ module _ (x y M : Float) (X X′ Y Y′ m : ℕ) (hM : Counts M false m) (hx : C
   sixteen : 16 * (E * (X′ - X)) ≤ bound * (X′ - X)
   sixteen = le-trans (le-of-eq (sym (mul-assoc 16 E (X′ - X)))) (mul-le-mul-right (X′ - X) (lit≤ tt))
 
-  rise : (S : Float) (s : Bool) (A B : ℕ) → 0 < B → HasValue S s A B → Fair (X′ - X) Y Y′ A B →
-      let P = S ⊗ (M ⊖ x) in
-      Counts P s (unitsOf P) × Apart (15 * (E * (X′ - X))) (unitsOf P * (X′ - X)) (change Y Y′ * (m - X))
-  rise S s A B B+ v f =
+  -- P is the line's rise or fall up to M, but for 15 steps
+  abbrev Gone : Float → Type 0
+  Gone P = Apart (15 * (E * (X′ - X))) (unitsOf P * (X′ - X)) (change Y Y′ * (m - X))
+
+  gone : (S : Float) (s : Bool) (A B : ℕ) → 0 < B → HasValue S s A B → Fair (X′ - X) Y Y′ A B → let P = S ⊗ (M ⊖ x) in Counts P s (unitsOf P) × Gone P
+  gone S s A B B+ v f =
       let d = minus M x m X hM hx from (lt-of-le-of-lt inside (f .narrow)) in
       let u = unitsOf (M ⊖ x) in
       let r = product S (M ⊖ x) s A B u v (d .number) (reach E (X′ - X) (m - X) (change Y Y′) A B u B+ inside (f .flat) (f .near) (d .apart) (two^- 0) (low-change Y Y′ E (two^- 0) (f .low))) in
@@ -180,13 +182,13 @@ module _ (x y M : Float) (X X′ Y Y′ m : ℕ) (hM : Counts M false m) (hx : C
   landed : (r : Float) → Counts r false (unitsOf r) → Apart (16 * (E * (X′ - X))) (unitsOf r * (X′ - X)) (Y * (X′ - X - (m - X)) + Y′ * (m - X)) → OffBy bound r exact
   landed r hr a = record { some = some; number = hr; apart = apart-more sixteen (rw left a) }
 
-  on-rising : (P : Float) → Counts P false (unitsOf P) → Y ≤ Y′ → Y + Y′ + 16 * E < two^- 0 → Apart (15 * (E * (X′ - X))) (unitsOf P * (X′ - X)) (change Y Y′ * (m - X)) → OffBy bound (y ⊕ P) exact
+  on-rising : (P : Float) → Counts P false (unitsOf P) → Y ≤ Y′ → Y + Y′ + 16 * E < two^- 0 → Gone P → OffBy bound (y ⊕ P) exact
   on-rising P hP o low a =
       let l = at-most E (X′ - X) (m - X) (change Y Y′) (unitsOf P) some inside a in
       let v = plus y P Y (unitsOf P) hy hP (low-sum Y Y′ (unitsOf P) E (two^- 0) o l low) in
       landed (y ⊕ P) (v .number) (rw (rises-to Y Y′ o) (upwards E (X′ - X) (m - X) (change Y Y′) (unitsOf P) some inside a Y (unitsOf (y ⊕ P)) (v .apart)))
 
-  on-falling : (P : Float) → Counts P true (unitsOf P) → Y′ ≤ Y → 15 * E ≤ Y′ → Y + Y′ + 16 * E < two^- 0 → Apart (15 * (E * (X′ - X))) (unitsOf P * (X′ - X)) (change Y Y′ * (m - X)) → OffBy bound (y ⊕ P) exact
+  on-falling : (P : Float) → Counts P true (unitsOf P) → Y′ ≤ Y → 15 * E ≤ Y′ → Y + Y′ + 16 * E < two^- 0 → Gone P → OffBy bound (y ⊕ P) exact
   on-falling P hP o above low a =
       let l = at-most E (X′ - X) (m - X) (change Y Y′) (unitsOf P) some inside a in
       let under = stays-above Y Y′ (unitsOf P) E o above l in
@@ -199,12 +201,12 @@ module _ (x y M : Float) (X X′ Y Y′ m : ℕ) (hM : Counts M false m) (hx : C
   by-slope (inf s) t = absurd t
   by-slope (fin false n e) t =
       let f = is-fair (X′ - X) Y Y′ (n * up e) (down e) (and-r (leb Y Y′) _ t) in
-      let r = rise (fin false n e) false (n * up e) (down e) (down-pos e) (refl, refl) f in
+      let r = gone (fin false n e) false (n * up e) (down e) (down-pos e) (refl, refl) f in
       on-rising (fin false n e ⊗ (M ⊖ x)) (r .0) (leb→le Y Y′ (and-l (leb Y Y′) _ t)) (f .low) (r .1)
   by-slope (fin true n e) t =
       let way = and-l (leb Y′ Y && leb (15 * E) Y′) _ t in
       let f = is-fair (X′ - X) Y Y′ (n * up e) (down e) (and-r (leb Y′ Y && leb (15 * E) Y′) _ t) in
-      let r = rise (fin true n e) true (n * up e) (down e) (down-pos e) (refl, refl) f in
+      let r = gone (fin true n e) true (n * up e) (down e) (down-pos e) (refl, refl) f in
       on-falling (fin true n e ⊗ (M ⊖ x)) (r .0) (leb→le Y′ Y (and-l (leb Y′ Y) _ way)) (leb→le (15 * E) Y′ (and-r (leb Y′ Y) _ way)) (f .low) (r .1)
 
 pub on-line : (p q : Point) (M : Float) (m : ℕ) → Counts M false m → Counts (p .mach) false (across p) → Counts (p .drag) false (height p) → across p ≤ m → m < across q
