@@ -17,12 +17,15 @@ use crate::builds::{fixed_steps, STEP};
 use crate::cards::{self, of_shape, shape_of};
 use crate::model::{self, Column, Design, Part, Settings, Sheet, COLUMNS, NO_PART, PLACES};
 use crate::original_fixed::{
-    check_dimension as check, takes_cone_formula as takes_cone, StoneyNose,
+    check_dimension as check, check_mach_any, takes_cone_formula as takes_cone, StoneyNose,
 };
 use crate::refusals::{Answer, CODES};
 
 /// The status for a number that names no formula, shape, nose or quantity.
 pub const NO_SUCH: u32 = 65535;
+
+/// The most Mach numbers of one walk.
+pub const QUERIES: usize = 256;
 
 /// The status of an answer.
 pub fn status(answer: Answer) -> u32 {
@@ -88,6 +91,50 @@ pub fn nose_lookup(nose: u32, mach: f64) -> (u32, [u64; 3]) {
     let (value, slope) = nose.value_and_slope(mach);
     let out = [value, slope, nose.first_mach()];
     (0, out.map(answer_bits))
+}
+
+/// A nose's value at each Mach number by the original's own lookup, and the count of a plain walk.
+pub fn nose_walk(
+    nose: u32,
+    machs: &[f64],
+    values: &mut [f64],
+    compared: &mut usize,
+) -> (u32, u64) {
+    let Some(nose) = StoneyNose::ALL.get(nose as usize) else {
+        return (NO_SUCH, 0);
+    };
+    if machs.len() > QUERIES || values.len() < machs.len() {
+        return (10, 0);
+    }
+    for &mach in machs {
+        if let Err(error) = check_mach_any(mach) {
+            return pair(Answer::from(error));
+        }
+    }
+    if machs.windows(2).any(|pair| pair[1] < pair[0]) {
+        return (16, 0);
+    }
+    for (&mach, value) in machs.iter().zip(values) {
+        *value = nose.value_and_slope(mach).0;
+    }
+    *compared = comparisons(nose.points(), machs);
+    (0, 0)
+}
+
+/// How many times a query is set against a point: the walk starts at the first point, a query moves
+/// on while the current point is at or below it, and ends at a higher point or past the last.
+fn comparisons(points: &[(f64, f64)], queries: &[f64]) -> usize {
+    let (mut current, mut count) = (0, 0);
+    for &mach in queries {
+        while let Some(&(point, _)) = points.get(current) {
+            count += 1;
+            if point > mach {
+                break;
+            }
+            current += 1;
+        }
+    }
+    count
 }
 
 /// The curve of a shape's number, and its coefficient at each Mach number.

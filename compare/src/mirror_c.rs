@@ -31,6 +31,29 @@ pub unsafe extern "C" fn formula(
 }
 
 #[inline(never)]
+pub unsafe extern "C" fn nose_lookup(nose: u32, mach: f64, out: *mut [u64; 3]) -> u32 {
+    let (status, answer) = mirror::nose_lookup(nose, mach);
+    *out = answer;
+    status
+}
+
+#[inline(never)]
+pub unsafe extern "C" fn nose_walk(
+    nose: u32,
+    machs: *const f64,
+    n: usize,
+    values: *mut f64,
+    m: usize,
+    compared: *mut usize,
+    bits: *mut u64,
+) -> u32 {
+    let (machs, values) = (from_raw_parts(machs, n), from_raw_parts_mut(values, m));
+    let (status, answer) = mirror::nose_walk(nose, machs, values, &mut *compared);
+    *bits = answer;
+    status
+}
+
+#[inline(never)]
 pub unsafe extern "C" fn curve(
     shape: u64,
     parameter: f64,

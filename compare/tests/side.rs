@@ -3,7 +3,7 @@
 
 use compare::inputs::Random;
 use compare::side::tally::Row;
-use compare::side::{cards, curves, formulas, sheets};
+use compare::side::{cards, curves, formulas, sheets, walks};
 
 const COUNT: u64 = 4000;
 
@@ -40,6 +40,14 @@ fn all_noses() {
     for row in formulas::nose_lookup(COUNT, random) {
         agrees(&row, &[0]);
     }
+}
+
+#[test]
+fn all_walks() {
+    agrees(
+        &walks::walks(COUNT, &mut Random::new(6)),
+        &[0, 1, 10, 16],
+    );
 }
 
 #[test]

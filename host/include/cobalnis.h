@@ -15,7 +15,7 @@
  *
  * No two of the memory areas passed to one call may overlap, and no pointer
  * may be null or unaligned (an empty slice has any aligned pointer), but for
- * the `value` of the typed functions, which may be null. */
+ * the `value` and `compared` of the typed functions, which may be null. */
 #ifndef COBALNIS_H
 #define COBALNIS_H
 
@@ -33,7 +33,8 @@ extern "C" {
 
 enum {
     COBALNIS_COLUMNS = 32, /* columns that a sheet has room for */
-    COBALNIS_PLACES = 16   /* parts that it has room for */
+    COBALNIS_PLACES = 16,  /* parts that it has room for */
+    COBALNIS_QUERIES = 256 /* Mach numbers that one walk takes */
 };
 
 /* Rows of cells, one cell a column: a row for each place, then these. */
@@ -73,8 +74,9 @@ enum {
     COBALNIS_MANY_COLUMNS = 7,  /* more than COBALNIS_COLUMNS columns */
     COBALNIS_NO_PLACE = 8,      /* no such place, column or point */
     COBALNIS_MANY_PARTS = 9,    /* more than COBALNIS_PLACES parts */
-    COBALNIS_FEW_CELLS = 10,    /* too few cells, or too short an output */
-    COBALNIS_HOUSE_INTERVAL = 11 /* a size outside what the clubs allow */
+    COBALNIS_FEW_CELLS = 10,    /* too few cells, or too short an output, or too many queries */
+    COBALNIS_HOUSE_INTERVAL = 11, /* a size outside what the clubs allow */
+    COBALNIS_FALLING_MACH = 16  /* a walk's Mach number is below the one before it */
 };
 
 /* Codes of refusal 1 (docs/REFERENCE.md, Codes), and what
@@ -184,6 +186,15 @@ uint32_t cobalnis_nose_point(uint32_t nose, size_t place, uint64_t out[2]);
 
 /* Value and slope in a nose's table, and the table's first Mach number. */
 uint32_t cobalnis_nose_lookup(uint32_t nose, double mach, uint64_t out[3]);
+
+/* A nose's value at each of n Mach numbers, up to COBALNIS_QUERIES, each at or
+ * above the one before, in one walk along the table: each is the value that
+ * cobalnis_nose_lookup gives. Of the m cells only the first n are written.
+ * compared: how many times a Mach number was set against a point, at most n
+ * plus the table's points. Refused: cells and compared are untouched, and bits
+ * is the value refused. */
+uint32_t cobalnis_nose_walk(uint32_t nose, const double *machs, size_t n, double *values,
+                            size_t m, size_t *compared, uint64_t *bits);
 
 /* Builds a curve and answers its coefficient at each Mach number; about: the
  * value refused, the drag at rest, the transonic lower bound. */
@@ -502,6 +513,19 @@ static inline uint32_t cobalnis_stoney_first_mach(uint32_t nose, double *mach)
     uint64_t out[3] = {0, 0, 0};
     uint32_t status = cobalnis_nose_lookup(nose, 0, out);
     return cobalnis_answer(status, out[2], mach);
+}
+
+/* The drag at n Mach numbers, of which drags takes as many; compared may be
+ * null. Refused: value is the Mach number refused, and nothing else is written. */
+static inline uint32_t cobalnis_stoney_walk(uint32_t nose, const double *machs, size_t n,
+                                            double *drags, size_t *compared, double *value)
+{
+    uint64_t bits = 0;
+    size_t count = 0;
+    uint32_t status = cobalnis_nose_walk(nose, machs, n, drags, n, &count, &bits);
+    if (status == 0 && compared != NULL)
+        *compared = count;
+    return cobalnis_answer(status, bits, value);
 }
 
 /* ---- curves */

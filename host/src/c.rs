@@ -44,6 +44,15 @@ pub mod raw {
         pub fn cobalnis_classify(bits: u64) -> u32;
         pub fn cobalnis_nose_point(nose: u32, place: usize, out: *mut [u64; 2]) -> u32;
         pub fn cobalnis_nose_lookup(nose: u32, mach: f64, out: *mut [u64; 3]) -> u32;
+        pub fn cobalnis_nose_walk(
+            nose: u32,
+            machs: *const f64,
+            n: usize,
+            values: *mut f64,
+            m: usize,
+            compared: *mut usize,
+            bits: *mut u64,
+        ) -> u32;
         pub fn cobalnis_curve(
             shape: u64,
             parameter: f64,
@@ -153,6 +162,31 @@ pub fn nose_lookup(nose: u32, mach: f64) -> (u32, [u64; 3]) {
     // SAFETY: `out` is three words of our own.
     let status = unsafe { raw::cobalnis_nose_lookup(nose, mach, &mut out) };
     (status, out)
+}
+
+/// A status, and the bits of the value refused; the values go to `values`, how many times a Mach
+/// number was set against a point to `compared`.
+pub fn nose_walk(
+    nose: u32,
+    machs: &[f64],
+    values: &mut [f64],
+    compared: &mut usize,
+) -> (u32, u64) {
+    let mut bits = 0;
+    // SAFETY: each pointer comes with its slice's own length; `values` and `compared` are borrowed
+    // mutably and `bits` is our own, so that nothing overlaps.
+    let status = unsafe {
+        raw::cobalnis_nose_walk(
+            nose,
+            machs.as_ptr(),
+            machs.len(),
+            values.as_mut_ptr(),
+            values.len(),
+            compared,
+            &mut bits,
+        )
+    };
+    (status, bits)
 }
 
 /// A status, and the bits of the value refused, of the drag at rest and of the lower bound; the

@@ -6,7 +6,8 @@
 //! always the one of bits 7ff8000000000000.
 //!
 //! - [`formulas`]: one function for each formula, under the original's name.
-//! - [`Curve`]: the pressure drag of a nose against Mach number; [`Nose`]: Stoney's measured ones.
+//! - [`Curve`]: the pressure drag of a nose against Mach number; [`Nose`]: Stoney's measured ones,
+//!   with [`Nose::walk`] for a whole flight.
 //! - [`Sheet`]: parts and columns, and the drag of each part at each column, kept right by edits.
 //! - [`classify`]: which of IEEE 754's five classes any 64 bits are in.
 //! - [`Settings::read`], [`Part::read`], [`print`]: cards.
@@ -18,12 +19,14 @@ mod curve;
 pub mod formulas;
 mod refusal;
 mod sheet;
+mod walk;
 
 pub use class::{classify, FloatClass};
 pub use curve::{takes_cone_formula, Curve, Nose, Shape};
 pub use formulas::Formula;
 pub use refusal::{check_dimension, Quantity, Refusal};
 pub use sheet::{print, Column, Part, Settings, Sheet, COLUMNS, PLACES, ROWS};
+pub use walk::{Walk, QUERIES};
 
 /// The C functions themselves, for programs that measure them.
 #[doc(hidden)]
@@ -33,8 +36,8 @@ pub use c::raw;
 /// The types above are made of these; a host has them for sheets that it keeps as plain memory.
 pub mod words {
     pub use crate::c::{
-        check_dimension, classify, curve, formula, insert, nose_lookup, nose_point, open, print,
-        read_part, read_settings, remove, replace, set_column, takes_cone_formula, PartWords,
+        check_dimension, classify, curve, formula, insert, nose_lookup, nose_point, nose_walk, open,
+        print, read_part, read_settings, remove, replace, set_column, takes_cone_formula, PartWords,
         SheetWords, FIRST_PART, MACHS_AT, PARTS_AT, PART_WORDS, REYNOLDS_AT, SHEET_WORDS,
     };
     pub use crate::sheet::LONGEST_TEXT;

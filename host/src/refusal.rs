@@ -10,7 +10,7 @@ use crate::sheet::{COLUMNS, PLACES};
 /// Why a call was refused. Nothing was changed by it.
 #[derive(Debug, Clone, Copy)]
 pub struct Refusal {
-    /// Its number, 1 to 11 (docs/REFERENCE.md, Refusals).
+    /// Its number, 1 to 11 or 16 (docs/REFERENCE.md, Refusals).
     pub number: u8,
     /// For number 1 the code of the quantity, 1 to 22, else 0.
     pub code: u8,
@@ -65,8 +65,9 @@ impl fmt::Display for Refusal {
             7 => return write!(f, "more than {COLUMNS} columns"),
             8 => "no such place in the design, or no such column",
             9 => return write!(f, "the design has {PLACES} parts already"),
-            10 => "too few cells were lent",
+            10 => "too few cells were lent, or too many Mach numbers asked",
             11 => "a size is outside what the clubs allow",
+            16 => "a Mach number is below the one before it",
             _ => "refused",
         };
         f.write_str(text)

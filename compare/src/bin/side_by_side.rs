@@ -13,7 +13,7 @@ use std::process::ExitCode;
 
 use compare::inputs::Random;
 use compare::side::tally::{print_agreement, print_plain};
-use compare::side::{cards, curves, formulas, sheets};
+use compare::side::{cards, curves, formulas, sheets, walks};
 
 fn main() -> ExitCode {
     let scale = match std::env::args().nth(1).map(|text| text.parse::<f64>()) {
@@ -37,6 +37,7 @@ fn main() -> ExitCode {
     rows.extend(sheets::sheets(count, 0x5eed_0008));
     rows.extend(cards::cards(count, 0x5eed_0009));
     rows.push(formulas::classify(count, &mut Random::new(0x5eed_000a)));
+    rows.push(walks::walks(count, &mut Random::new(0x5eed_000b)));
     println!("Port against the original with the fixed steps:\n");
     print_agreement(&rows);
     println!("\nPort against the untouched original, measured only:\n");

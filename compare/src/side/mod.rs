@@ -9,3 +9,4 @@ pub mod curves;
 pub mod formulas;
 pub mod sheets;
 pub mod tally;
+pub mod walks;

@@ -13,7 +13,7 @@ pub struct Row {
     name: String,
     inputs: u64,
     /// By the other side's refusal number, 0 accepted.
-    by_number: [u64; 12],
+    by_number: [u64; 21],
     /// Numbers that name nothing.
     no_such: u64,
     pub disagreements: u64,

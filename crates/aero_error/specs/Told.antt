@@ -13,12 +13,12 @@ use Rattle.aero_error.specs.declared.Quantity.the-variants.{Mach, Finene
 use Rattle.aero_error.specs.declared.AeroError.{AeroError}
 use Rattle.aero_error.specs.declared.AeroError.the-variants.{Domain, Broken}
 use Rattle.aero_error.specs.declared.Rule.{Rule}
-use Rattle.aero_error.specs.declared.Rule.the-variants.{OgiveRadiusRatio, HaackAboveThird, CardEnds, ReservedBit, FieldMissing, TooManyColumns, NoSuchPlace, DesignFull, TooFewCells, OutsideInterval}
+use Rattle.aero_error.specs.declared.Rule.the-variants.{OgiveRadiusRatio, HaackAboveThird, CardEnds, ReservedBit, FieldMissing, TooManyColumns, NoSuchPlace, DesignFull, TooFewCells, OutsideInterval, FallingMach}
 use Rattle.aero_error.specs.declared.Check.{Check}
 use Rattle.aero_error.specs.declared.Check.the-variants.{Passed, Failed}
 use Rattle.aero_error.specs.declared.Coefficient.{Coefficient}
 use Rattle.aero_error.specs.declared.Coefficient.the-variants.{Value, Refused}
-use Rattle.aero_error.specs.Refusals.{numberOf, codeOf, refusedValue, codeOfQuantity}
+use Rattle.aero_error.specs.Refusals.{numberOf, numberOfRule, codeOf, refusedValue, codeOfQuantity}
 
 pub record Told : Type 0 where
   pub number : ℕ
@@ -74,14 +74,18 @@ quantity-back BoattailLength = refl
 quantity-back BoattailAft = refl
 quantity-back BoattailFore = refl
 
--- in the order of the numbers, from 2 on
 abbrev rules : List Rule
 rules =
     OgiveRadiusRatio ∷ HaackAboveThird ∷ CardEnds ∷ ReservedBit ∷ FieldMissing ∷ TooManyColumns ∷ NoSuchPlace ∷ DesignFull ∷ TooFewCells ∷
-    OutsideInterval ∷ []
+    OutsideInterval ∷ FallingMach ∷ []
+
+-- the rule that has a number
+abbrev ruleOf : ℕ → List Rule → Rule
+ruleOf n [] = OgiveRadiusRatio
+ruleOf n (rule ∷ rest) = cond (eqb (numberOfRule rule) n) rule (ruleOf n rest)
 
 abbrev errorOf : Told → AeroError
-errorOf t = cond (eqb (t .number) 1) (Domain (quantityOf (t .code)) (t .value)) (Broken (getD rules (t .number - 2) OgiveRadiusRatio))
+errorOf t = cond (eqb (t .number) 1) (Domain (quantityOf (t .code)) (t .value)) (Broken (ruleOf (t .number) rules))
 
 rule-back : (rule : Rule) → errorOf (toldOf (Broken rule)) ≡ Broken rule
 rule-back OgiveRadiusRatio = refl
@@ -94,6 +98,7 @@ rule-back NoSuchPlace = refl
 rule-back DesignFull = refl
 rule-back TooFewCells = refl
 rule-back OutsideInterval = refl
+rule-back FallingMach = refl
 
 error-back : (e : AeroError) → errorOf (toldOf e) ≡ e
 error-back (Domain what value) = ap (λ (q : Quantity). Domain q value) (quantity-back what)

@@ -32,7 +32,7 @@ pub enum Quantity {
     BoattailFore,
 }
 
-// A rule that a refusal other than 1 names, in the order of the table's numbers 2 to 11.
+// A rule that a refusal other than 1 names, in the order of the numbers.
 pub enum Rule {
     OgiveRadiusRatio,
     HaackAboveThird,
@@ -44,6 +44,7 @@ pub enum Rule {
     DesignFull,
     TooFewCells,
     OutsideInterval,
+    FallingMach,
 }
 
 // A refusal: a value outside its domain, which is refusal 1, or a broken rule.
@@ -97,7 +98,7 @@ impl Quantity {
 }
 
 impl Rule {
-    // The table's number, 2 to 11.
+    // The table's number, from 2 on.
     pub fn number(self) -> u8
         ensures { λ r. ⌜ r ≡ numberOfRule self ⌝ }
     {
@@ -112,12 +113,13 @@ impl Rule {
             Rule::DesignFull => 9,
             Rule::TooFewCells => 10,
             Rule::OutsideInterval => 11,
+            Rule::FallingMach => 16,
         }
     }
 }
 
 impl AeroError {
-    // The refusal's number, 1 to 11.
+    // The refusal's number (docs/REFERENCE.md, Refusals).
     pub fn number(self) -> u8
         ensures { λ r. ⌜ r ≡ numberOf self ⌝ }
     {

@@ -6,7 +6,7 @@ use Prim.Native.Nat.{ℕ, _+_, _*_}
 use lib.ListN.{length, getD, drop}
 use lib.Seq.{sets}
 use lib.Dec.{eqb, leb, ltb}
-use lib.Ieee.{Float, nan, toBits, binary64}
+use lib.Ieee.{Float, toBits, binary64}
 use Rattle.elementary.specs.Constants.{0·0}
 use Rattle.elementary.specs.declared.class.FloatClass.{FloatClass}
 use Rattle.elementary.specs.declared.class.FloatClass.the-variants.{Zero, Subnormal, Normal, Infinity, NaN}
@@ -19,14 +19,17 @@ use Rattle.aero_error.specs.declared.Check.{Check}
 use Rattle.aero_error.specs.declared.Check.the-variants.{Passed, Failed}
 use Rattle.aero_error.specs.declared.Coefficient.{Coefficient}
 use Rattle.aero_error.specs.declared.Coefficient.the-variants.{Value, Refused}
-use Rattle.aero_error.specs.Checks.{upTo, _then_, unless, _and-then_}
+use Rattle.aero_error.specs.Checks.{_then_, unless, _and-then_}
 use Rattle.aero_error.specs.Told.{toldOf}
-use Rattle.drag.specs.Friction.{machChecked, criticalReynolds, incompressibleSkinFriction, skinFrictionCoefficient, bodyFrictionFormFactor}
+use Rattle.drag.specs.Friction.{machChecked, machsTest, criticalReynolds, incompressibleSkinFriction, skinFrictionCoefficient, bodyFrictionFormFactor}
 use Rattle.drag.specs.Pressure.{stagnationRatio, stagnationPressureRatio, stagnationDragCoefficient, baseDragCoefficient, jointPressureDragCoefficient, boattailFactor}
 use Rattle.shapes.specs.Numbers.{shapeOf, parameterOf, von-karman, lv-haack}
 use Rattle.stoney.specs.Tables.{noseAt}
 use Rattle.stoney.specs.Points.{machAt, dragAt, rangeOf, firstMach}
 use Rattle.stoney.specs.Lookup.{valueAndSlope}
+use Rattle.walk.specs.declared.Walked.{Walked}
+use Rattle.walk.specs.declared.Walked.the-variants.{Compared, Refused as NotWalked}
+use Rattle.walk.specs.Answers.{Answered}
 use Rattle.nose_drag.specs.declared.curve.PressureDragCurve.{PressureDragCurve}
 use Rattle.nose_drag.specs.declared.builder.Curve.{Curve}
 use Rattle.nose_drag.specs.declared.builder.Curve.the-variants.{Built, Refused as NotBuilt}
@@ -153,15 +156,26 @@ lookupWords nose M before =
     let at = valueAndSlope (noseAt nose) M in
     cond (isNose nose) (toBits binary64 (at .value) ∷ toBits binary64 (at .slope) ∷ toBits binary64 (firstMach (noseAt nose)) ∷ []) before
 
+-- the answer of `walk`'s own call: accepted, the count is handed out; refused, it is as it was, and the value refused is handed out
+abbrev pub WalkShown : Walked → ℕ → ℕ → ℕ → ℕ → Type 0
+WalkShown (Compared n) r before compared bits' = (r ≡ 0) × (compared ≡ n) × (bits' ≡ 0)
+WalkShown (NotWalked e) r before compared bits' = (r ≡ statusOf e) × (compared ≡ before) × (bits' ≡ toBits binary64 (toldOf e .value))
+
+pub record NoseWalked (nose : ℕ) (Ms xs : List Float) (before r : ℕ) (ys : List Float) (compared bits' : ℕ) : Type 0 where
+  pub answer : Walked
+  pub walked : Answered (noseAt nose) Ms xs answer ys
+  pub shown : WalkShown answer r before compared bits'
+
+-- a number above 8 names no nose
+abbrev pub WalkDone : Bool → ℕ → List Float → List Float → ℕ → ℕ → ℕ → List Float → ℕ → ℕ → Type 0
+WalkDone true nose Ms xs before bits r ys compared bits' = NoseWalked nose Ms xs before r ys compared bits'
+WalkDone false nose Ms xs before bits r ys compared bits' = (r ≡ no-such) × (ys ≡ xs) × (compared ≡ before) × (bits' ≡ bits)
+
 -- ---- curves
 
 -- the curve of a shape's number; 6 is the step
 abbrev pub curveOf : ℕ → Float → Float → Float → Curve
 curveOf shape parameter fineness angle = cond (eqb shape 6) (Built stepCurve) (newCurve (shapeOf shape parameter) fineness angle)
-
--- 1 for the first bad Mach
-unfoldable pub machsTest : List Float → Check
-machsTest Ms = upTo (length Ms) (λ k. machChecked (getD Ms k nan))
 
 abbrev pub coefficientBits : PressureDragCurve → Float → ℕ
 coefficientBits curve M = answerBits (coefficientOf curve M)

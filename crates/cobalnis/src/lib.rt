@@ -19,6 +19,7 @@ pub use formulas::cobalnis_takes_cone_formula;
 pub use noses::cobalnis_curve;
 pub use noses::cobalnis_nose_lookup;
 pub use noses::cobalnis_nose_point;
+pub use noses::cobalnis_nose_walk;
 pub use sheets::cobalnis_insert;
 pub use sheets::cobalnis_open;
 pub use sheets::cobalnis_remove;

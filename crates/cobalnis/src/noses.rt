@@ -1,4 +1,5 @@
-// Stoney's noses by their numbers: a point of a table, and a table read at a Mach; and the curves by their shapes' numbers.
+// Stoney's noses by their numbers: a point of a table, a table read at a Mach, and at many in one walk; and the curves by their shapes'
+// numbers.
 ghost use mathlib.Core.Path.{_≡_};
 ghost use mathlib.Core.Bool.{cond};
 ghost use Prim.Native.Nat.{_≤_};
@@ -7,9 +8,11 @@ ghost use lib.ListN.{length};
 ghost use lib.Seq.{sets};
 ghost use Rattle.aero_error.specs.Checks.{_then_, unless};
 ghost use Rattle.aero_error.specs.declared.Rule.the-variants.{TooFewCells};
+ghost use Rattle.drag.specs.Friction.{machsTest};
 ghost use Rattle.cobalnis.specs.Words.{spread};
-ghost use Rattle.cobalnis.specs.Answers.{no-such, isNose, pointStatus, pointWords, lookupWords, curveOf, machsTest, coefficientBits, coefficientWord, about, ReadAt, CurveAnswered};
+ghost use Rattle.cobalnis.specs.Answers.{no-such, isNose, pointStatus, pointWords, lookupWords, WalkDone, curveOf, coefficientBits, coefficientWord, about, ReadAt, CurveAnswered};
 use crate::answers::NO_SUCH;
+use crate::answers::refuse;
 use crate::answers::status_of;
 use aero_error::AeroError;
 use aero_error::Check;
@@ -19,6 +22,7 @@ use nose_drag::Curve;
 use nose_drag::PressureDragCurve;
 use shapes::NoseShape;
 use stoney::StoneyNose;
+use walk::Walked;
 
 // ---- Stoney's noses
 
@@ -60,6 +64,30 @@ pub extern "C" fn cobalnis_nose_lookup(nose: u32, mach: f64, out: &mut [u64; 3])
     NO_SUCH
 }
 
+// A nose's values at these Machs, in one walk along its table, and how many times a Mach was set against a point.
+#[no_mangle]
+pub extern "C" fn cobalnis_nose_walk(
+    nose: u32,
+    machs: &[f64],
+    answers: &mut [f64],
+    compared: &mut usize,
+    bits: &mut u64,
+) -> u32
+    ensures { λ r. ⌜ WalkDone (isNose nose) nose (now (machs .entry)) (now (answers .entry)) (now (compared .entry)) (now (bits .entry)) r (now (answers .exit)) (now (compared .exit)) (now (bits .exit)) ⌝ }
+{
+    if nose <= 8 {
+        return match walk::values(StoneyNose::of_number(nose as u64), machs, answers) {
+            Walked::Compared(count) => {
+                *compared = count;
+                *bits = 0;
+                0
+            }
+            Walked::Refused(e) => refuse(e, bits),
+        };
+    }
+    NO_SUCH
+}
+
 // ---- curves
 
 fn curve_of(shape: u64, parameter: f64, fineness_ratio: f64, joint_angle_rad: f64) -> Curve
@@ -73,20 +101,6 @@ fn curve_of(shape: u64, parameter: f64, fineness_ratio: f64, joint_angle_rad: f6
         fineness_ratio,
         joint_angle_rad,
     )
-}
-
-fn check_machs(machs: &[f64]) -> Check
-    ensures { λ r. ⌜ r ≡ machsTest (now (machs .entry)) ⌝ }
-{
-    let mut i = 0usize;
-    while i < machs.len() {
-        let check = drag::check_mach_any(machs[i]);
-        let Check::Passed = check else {
-            return check;
-        };
-        i += 1;
-    }
-    Check::Passed
 }
 
 fn coefficient_bits(curve: PressureDragCurve, mach: f64) -> u64
@@ -127,7 +141,7 @@ fn read_curve(curve: PressureDragCurve, machs: &[f64], out: &mut [u64], said: &m
         *said = about(0.0, curve);
         return status_of(AeroError::Broken(Rule::TooFewCells));
     }
-    match check_machs(machs) {
+    match drag::check_machs(machs) {
         Check::Failed(e) => {
             *said = about(e.value(), curve);
             status_of(e)

@@ -2,7 +2,9 @@
 -- R is the Reynolds number, k the relative roughness R_s/L, M the Mach number.
 use mathlib.Core.Path.{_≡_, refl}
 use mathlib.Core.Bool.{Bool, true, false, cond, _&&_}
-use lib.Ieee.{Float, neg}
+use mathlib.Core.List.{List}
+use lib.ListN.{length, getD}
+use lib.Ieee.{Float, nan, neg}
 use lib.Ieee.Scale.{finite}
 use Rattle.elementary.specs.Arithmetic.{_⊕_, _⊖_, _⊗_, _⊘_, _≺_, _≼_}
 use Rattle.elementary.specs.Steps.{LN, POW}
@@ -11,7 +13,7 @@ use Rattle.aero_error.specs.declared.Check.{Check}
 use Rattle.aero_error.specs.declared.Coefficient.{Coefficient}
 use Rattle.aero_error.specs.declared.Coefficient.the-variants.{Value}
 use Rattle.aero_error.specs.declared.Quantity.the-variants.{Mach, Reynolds, Roughness, BodyFineness}
-use Rattle.aero_error.specs.Checks.{required, dimension, _then_, _and-then_, _for-value_}
+use Rattle.aero_error.specs.Checks.{required, dimension, _then_, upTo, _and-then_, _for-value_}
 use Rattle.drag.specs.declared.Wall.{Wall}
 use Rattle.elementary.specs.Constants.{0·0, 1·0, 0·5}
 use Rattle.drag.specs.Constants.{51·0, 0·032, 0·1, 0·15, 0·18, 0·2, 0·58, 1·5, 5·6, 1·039, LOW-REYNOLDS, LOW-REYNOLDS-FRICTION}
@@ -19,6 +21,10 @@ use Rattle.drag.specs.Constants.{51·0, 0·032, 0·1, 0·15, 0·18, 0·2
 -- "a Mach number of any speed regime: finite and non-negative"
 unfoldable pub machChecked : Float → Check
 machChecked M = required (finite M && 0·0 ≼ M) Mach M
+
+-- 1 for the first bad Mach
+unfoldable pub machsTest : List Float → Check
+machsTest Ms = upTo (length Ms) (λ k. machChecked (getD Ms k nan))
 
 -- Mach, then Reynolds number
 abbrev pub flowChecked : Float → Float → Check

@@ -1,7 +1,7 @@
 // Skin friction, stagnation pressure, base drag, joint drag and the boattail rule (drag.rs): the terms of Niskanen's drag buildup
 // as functions of their inputs, with the Rust's names, order of tests and order of operations. Each answers the value or the refusal.
 ghost use mathlib.Core.Path.{_≡_};
-ghost use Rattle.drag.specs.Friction.{machChecked, flowChecked, turbulentFriction, criticalReynolds, limitedFriction, wallOf, incompressible as incompressibleOf, incompressibleSkinFriction, compressible as compressibleOf, frictionOn, skinFrictionCoefficient, bodyFrictionFormFactor};
+ghost use Rattle.drag.specs.Friction.{machChecked, machsTest, flowChecked, turbulentFriction, criticalReynolds, limitedFriction, wallOf, incompressible as incompressibleOf, incompressibleSkinFriction, compressible as compressibleOf, frictionOn, skinFrictionCoefficient, bodyFrictionFormFactor};
 ghost use Rattle.drag.specs.Walls.{limitedFrom, wallAt};
 ghost use Rattle.drag.specs.Pressure.{stagnationRatio, stagnationPressureRatio, stagnationDragCoefficient, baseDrag, baseDragCoefficient, jointPressureDragCoefficient, boattailShare, boattailFactor};
 use aero_error::Check;
@@ -30,6 +30,21 @@ pub fn check_mach_any(mach: f64) -> Check
 {
     let ok = is_finite(mach) && mach >= 0.0;
     require(ok, Quantity::Mach, mach)
+}
+
+// The first bad Mach number's refusal.
+pub fn check_machs(machs: &[f64]) -> Check
+    ensures { λ r. ⌜ r ≡ machsTest (now (machs .entry)) ⌝ }
+{
+    let mut i = 0usize;
+    while i < machs.len() {
+        let check = check_mach_any(machs[i]);
+        let Check::Passed = check else {
+            return check;
+        };
+        i += 1;
+    }
+    Check::Passed
 }
 
 // Mach, then Reynolds number: the flow that a friction is asked for.

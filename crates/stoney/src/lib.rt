@@ -386,7 +386,7 @@ pub fn drag_at(place: usize) -> f64
 }
 
 // Below the first point (m, c).
-fn before_first(m: f64, c: f64, mach: f64) -> ValueAndSlope
+pub fn before_first(m: f64, c: f64, mach: f64) -> ValueAndSlope
     ensures { λ r. ⌜ r ≡ before (record { mach = m; drag = c }) mach ⌝ }
 {
     if m > SUBSONIC_MACH_LIMIT {
@@ -411,7 +411,7 @@ fn before_first(m: f64, c: f64, mach: f64) -> ValueAndSlope
 }
 
 // On the line from (m0, c0) to (m1, c1).
-fn on_line(m0: f64, c0: f64, m1: f64, c1: f64, mach: f64) -> ValueAndSlope
+pub fn on_line(m0: f64, c0: f64, m1: f64, c1: f64, mach: f64) -> ValueAndSlope
     ensures { λ r. ⌜ r ≡ line (record { mach = m0; drag = c0 }) (record { mach = m1; drag = c1 }) mach ⌝ }
 {
     let slope = (c1 - c0) / (m1 - m0);

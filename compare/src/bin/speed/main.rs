@@ -12,6 +12,7 @@ mod curves;
 mod formulas;
 mod sheets;
 mod timing;
+mod walks;
 
 use compare::inputs::Random;
 
@@ -20,6 +21,7 @@ use curves::curves;
 use formulas::formulas;
 use sheets::{builds, rebuilds, removes, replaces, set_columns};
 use timing::{row, Times};
+use walks::walks;
 
 /// Inputs of a kind; a turn goes through all of them, again and again.
 const INPUTS: usize = 1024;
@@ -32,7 +34,9 @@ const NOTES: &str = "
   (model.rs, cards.rs) over the original's functions. It builds each curve once a call, but it
   allocates a vector for each row that it tries and writes, and takes the boattail factor, the form
   factor and the wetted sum anew at each column.
-- Whole build and remove start from a copied sheet (1320 bytes) on either side.";
+- Whole build and remove start from a copied sheet (1320 bytes) on either side.
+- The original has no walk; there the other side tests as the port does, asks the original's
+  lookup for each Mach, and counts by a plain walk.";
 
 fn main() {
     let mut random = Random::new(0x5eed_0006);
@@ -52,5 +56,6 @@ fn main() {
     set_columns(&mut random);
     removes(&mut random);
     cards(&mut random);
+    walks(&mut random);
     println!("{NOTES}");
 }

@@ -7,11 +7,10 @@ use lib.Ieee.{nan}
 use Rattle.aero_error.specs.declared.Check.the-variants.{Passed}
 use Rattle.aero_error.specs.Checks.{upTo}
 use Rattle.aero_error.specs.CheckLaws.{up-none, up-more, up-failed, up-end}
-use Rattle.drag.specs.Friction.{machChecked}
-use Rattle.cobalnis.specs.Answers.{machsTest}
 use borrow.Author.Needs.{needs}
-use Rattle.cobalnis.proofs.noses.check_machs.Statement.{statement}
-use Rattle.cobalnis.proofs.noses.check_machs.Tie as tie
+use Rattle.drag.specs.Friction.{machChecked, machsTest}
+use Rattle.drag.proofs.check_machs.Statement.{statement}
+use Rattle.drag.proofs.check_machs.Tie as tie
 
 abbrev Inv-loop : tie.InvT-loop
 Inv-loop machs i₀ i = (i ≤ length machs) × (upTo i (λ k. machChecked (getD machs k nan)) ≡ Passed)

@@ -1,0 +1,69 @@
+-- `values` meets its contract: a failed test is the answer, and what is written once all have passed is the walk's, whose values are the single lookup's.
+use mathlib.Core.Path.{_≡_, refl, sym, ap, _∙_}
+use mathlib.Core.List.{List}
+use Prim.Native.Nat.{ℕ, _≤_}
+use lib.Dec.{ltb}
+use borrow.Author.Tests.{ltb-false}
+use lib.ListN.{length}
+use lib.Seq.{sets}
+use lib.Ieee.{Float}
+use borrow.Author.Needs.{needs}
+use Rattle.aero_error.specs.declared.AeroError.{AeroError}
+use Rattle.aero_error.specs.declared.Check.{Check}
+use Rattle.aero_error.specs.declared.Check.the-variants.{Passed, Failed}
+use Rattle.aero_error.specs.declared.Rule.the-variants.{TooFewCells}
+use Rattle.aero_error.specs.Checks.{_then_, unless}
+use Rattle.aero_error.specs.CheckLaws.{both-passed, unless-passed}
+use Rattle.drag.specs.Friction.{machsTest}
+use Rattle.stoney.specs.declared.StoneyNose.{StoneyNose}
+use Rattle.walk.specs.declared.Walked.{Walked}
+use Rattle.walk.specs.Tests.{most-queries, roomTest, givenTest, risingTest, flightTest}
+use Rattle.walk.specs.Walk.{walkOf}
+use Rattle.walk.specs.Answers.{walkedAs, countOf, valuesOf, Answered}
+use Rattle.walk.proofs.Agree.{agree}
+use Rattle.walk.proofs.values.Statement.{statement}
+use Rattle.walk.proofs.values.Tie as tie
+
+tested : (Ms : List Float) (cells : ℕ) (given rising check : Check) → given ≡ givenTest Ms cells → rising ≡ risingTest Ms → check ≡ (given then rising) → check ≡ flightTest Ms cells
+tested Ms cells given rising check g r e = e ∙ rw (g, r)
+
+module _ (nose : StoneyNose) (Ms xs : List Float) (check : Check) (is : check ≡ flightTest Ms (length xs)) where
+  refused : (r : Walked) (e : AeroError) → check ≡ Failed e → r ≡ walkedAs check 0 → Answered nose Ms xs r xs
+  refused r e failed answer = record { answer = rw (← is, failed) (answer ∙ rw failed); cells = rw (← is, failed) }
+
+  accepted : (r : Walked) (n : ℕ) (ys : List Float) → check ≡ Passed → r ≡ walkedAs check n → n ≡ countOf nose Ms → ys ≡ sets xs 0 (walkOf nose Ms .values) → Answered nose Ms xs r ys
+  accepted r n ys passed answer count cells =
+      record { answer = rw (← is, passed, ← count) (answer ∙ rw passed); cells = rw (← is, passed, ← agree nose Ms (length xs) (sym is ∙ passed)) cells }
+
+room : (Ms : List Float) (cells : ℕ) → flightTest Ms cells ≡ Passed → (length Ms ≤ cells) × (length Ms ≤ most-queries)
+room Ms cells h =
+    let few = unless (ltb most-queries (length Ms)) TooFewCells in
+    let lent = unless (ltb cells (length Ms)) TooFewCells in
+    let b = both-passed few lent (both-passed (roomTest Ms cells) (machsTest Ms) (both-passed (givenTest Ms cells) (risingTest Ms) h .first) .first) in
+    (ltb-false cells (length Ms) (unless-passed _ TooFewCells (b .second)), ltb-false most-queries (length Ms) (unless-passed _ TooFewCells (b .first)))
+
+returns : tie.Need-returns
+returns c =
+    let a = c .before .before .before .before .before .before .before .before .args in
+    let is = tested (a .machs .now) (length (a .answers .now)) _ _ _ (c .before .before .before .before .before .check-given .ensures) (c .before .before .before .before .check-rising .ensures) (c .before .before .before .then .ensures) in
+    refused (a .nose) (a .machs .now) (a .answers .now) _ is _ _ (c .before .enum-told2 .given .1) (c .counted .ensures)
+
+walk-table-requires : tie.Need-walk-table-requires
+walk-table-requires c κs =
+    let a = c .before .before .before .before .before .before .before .before .args in
+    let is = tested (a .machs .now) (length (a .answers .now)) _ _ _ (c .before .before .before .before .before .check-given .ensures) (c .before .before .before .before .check-rising .ensures) (c .before .before .before .then .ensures) in
+    room (a .machs .now) (length (a .answers .now)) (sym is ∙ c .before .enum-told .given .1)
+
+returns-2 : tie.Need-returns-2
+returns-2 c =
+    let a = c .before .before .before .before .before .before .before .before .before .before .before .before .args in
+    let is = tested (a .machs .now) (length (a .answers .now)) _ _ _ (c .before .before .before .before .before .before .before .before .before .check-given .ensures) (c .before .before .before .before .before .before .before .before .check-rising .ensures) (c .before .before .before .before .before .before .before .then .ensures) in
+    let walked = c .before .before .before .walk-table .ensures in
+    accepted (a .nose) (a .machs .now) (a .answers .now) _ is _ _ _ (c .before .before .before .before .before .enum-told .given .1) (c .counted2 .ensures) (walked .0) (walked .1)
+
+pub values-spec : {M : Type 1} → statement M
+values-spec =
+    tie.close
+    (tie.spec
+    (λ c κs. search needs) (λ c κs. search needs) (λ c κs. search needs) (λ c. search needs) (λ c. search needs) (λ c κs. search needs) returns
+    walk-table-requires (λ c κs. search needs) (λ c. search needs) returns-2)

@@ -1,0 +1,33 @@
+-- What a call answers and leaves in the answer cells. Accepted: the count of the walk, and in the first cells the single lookup's value at each Mach; the cells
+-- after them stay. Refused: the first test that fails, and every cell stays.
+use mathlib.Core.Path.{_≡_}
+use mathlib.Core.List.{List, map}
+use Prim.Native.Nat.{ℕ}
+use lib.ListN.{length}
+use lib.Seq.{sets}
+use lib.Ieee.{Float}
+use Rattle.aero_error.specs.declared.Check.{Check}
+use Rattle.aero_error.specs.Checks.{after}
+use Rattle.stoney.specs.declared.StoneyNose.{StoneyNose}
+use Rattle.stoney.specs.Lookup.{valueAndSlope}
+use Rattle.walk.specs.declared.Walked.{Walked}
+use Rattle.walk.specs.declared.Walked.the-variants.{Compared, Refused}
+use Rattle.walk.specs.Tests.{flightTest}
+use Rattle.walk.specs.Walk.{walkOf}
+
+-- the count where the tests have passed, or their refusal
+abbrev pub walkedAs : Check → ℕ → Walked
+walkedAs check compared = after Refused check (Compared compared)
+
+-- "the number of times a query was set against a table point"
+abbrev pub countOf : StoneyNose → List Float → ℕ
+countOf nose Ms = walkOf nose Ms .compared
+
+-- "Each answer is the single lookup's value"
+abbrev pub valuesOf : StoneyNose → List Float → List Float
+valuesOf nose Ms = map (λ M. valueAndSlope nose M .value) Ms
+
+-- the answer r to the queries Ms, and the answer cells before (xs) and after (ys)
+pub record Answered (nose : StoneyNose) (Ms xs : List Float) (r : Walked) (ys : List Float) : Type 0 where
+  pub answer : r ≡ walkedAs (flightTest Ms (length xs)) (countOf nose Ms)
+  pub cells : ys ≡ after (λ e. xs) (flightTest Ms (length xs)) (sets xs 0 (valuesOf nose Ms))
