@@ -62,6 +62,7 @@ REFUSALS = {
     10: f"too few cells for the sheet: {ROWS} for each column are needed",
     11: ("the diameter is not within 0.001 to 100, or the roughness not within 0 to 1",
          "length or aft diameter is not within 0 to 100, or the wetted ratio not within 0 to 10000"),
+    16: "a Mach number is below the one before it in a walk along a table",
 }
 
 

@@ -128,13 +128,13 @@ class Read(unittest.TestCase):
 
     def test_refusals(self):
         said = set()
-        for number in range(1, 12):
+        for number in [*range(1, 12), 16]:
             for card, where in [(0, "the settings card"), (3, "part card 3")]:
                 status, output, _ = call("read", f"refused {number} card {card}\n")
                 self.assertEqual(status, 0)
                 self.assertTrue(output.decode().startswith(f"refused at {where}: "), output)
                 said.add(output.decode().split(": ", 1)[1])
-        self.assertEqual(len(said), 11 + 3)  # 1, 6 and 11 have words of their own for settings and parts
+        self.assertEqual(len(said), 12 + 3)  # 1, 6 and 11 have words of their own for settings and parts
 
     def test_malformed(self):
         lines = PAPER_SHEET.splitlines(keepends=True)

@@ -104,6 +104,48 @@ static void raw_noses(void)
     CHECK(cobalnis_double(three[0]) == 0.111 && cobalnis_double(three[2]) == 1.2);
 }
 
+static void raw_walk(void)
+{
+    const double machs[4] = {0.5, 0.8, 0.8, 0.9};
+    const double falling[3] = {1, 0.9, -1}, bad[2] = {NAN, 1};
+    double values[5] = {7, 7, 7, 7, 7};
+    size_t compared = 99;
+    uint64_t bits = 7;
+    CHECK(cobalnis_nose_walk(COBALNIS_NOSE_VON_KARMAN, machs, 4, values, 5, &compared, &bits) == 0);
+    CHECK(values[0] == 0 && values[3] == 0 && values[4] == 7 && compared == 7 && bits == 0);
+    compared = 5;
+    values[0] = 6;
+    CHECK(cobalnis_nose_walk(9, machs, 4, values, 5, &compared, &bits) == COBALNIS_NO_SUCH);
+    CHECK(cobalnis_nose_walk(0, machs, 4, values, 3, &compared, &bits) == COBALNIS_FEW_CELLS);
+    CHECK(cobalnis_nose_walk(0, falling, 2, values, 5, &compared, &bits) == COBALNIS_FALLING_MACH);
+    CHECK(bits == 0);
+    CHECK(cobalnis_nose_walk(0, falling, 3, values, 5, &compared, &bits) ==
+          DOMAIN_OF(COBALNIS_MACH));
+    CHECK(cobalnis_double(bits) == -1);
+    CHECK(cobalnis_nose_walk(0, bad, 2, values, 5, &compared, &bits) == DOMAIN_OF(COBALNIS_MACH));
+    CHECK(bits == SHOWN_NAN && compared == 5 && values[0] == 6);
+}
+
+/* As many Machs as a walk takes, and one more. */
+static void long_walk(void)
+{
+    static double machs[COBALNIS_QUERIES + 1], drags[COBALNIS_QUERIES + 1];
+    size_t compared = 0;
+    double value = 7;
+    for (size_t i = 0; i <= COBALNIS_QUERIES; i++)
+        machs[i] = 5;
+    CHECK(cobalnis_stoney_walk(COBALNIS_NOSE_ELLIPSOID, machs, COBALNIS_QUERIES, drags, &compared,
+                               &value) == 0);
+    CHECK(drags[0] == 0.158 && drags[COBALNIS_QUERIES - 1] == 0.158 && compared == 12 && value == 0);
+    CHECK(cobalnis_stoney_walk(COBALNIS_NOSE_ELLIPSOID, machs, COBALNIS_QUERIES + 1, drags, &compared,
+                               &value) == COBALNIS_FEW_CELLS);
+    CHECK(cobalnis_stoney_walk(COBALNIS_NOSE_ELLIPSOID, machs, 0, drags, NULL, NULL) == 0);
+    machs[1] = -2;
+    CHECK(cobalnis_stoney_walk(COBALNIS_NOSE_ELLIPSOID, machs, 2, drags, NULL, &value) ==
+          DOMAIN_OF(COBALNIS_MACH));
+    CHECK(value == -2);
+}
+
 static void raw_curve(void)
 {
     const double machs[2] = {0, 1};
@@ -369,6 +411,8 @@ int main(void)
     classes();
     bits_of_numbers();
     raw_noses();
+    raw_walk();
+    long_walk();
     raw_curve();
     steps();
     drag_formulas();

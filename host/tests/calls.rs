@@ -228,6 +228,9 @@ fn words_that_name_nothing() {
     assert_eq!(words::takes_cone_formula(6, 1.0), 65535);
     assert_eq!(words::nose_point(9, 0), (65535, [0; 2]));
     assert_eq!(words::nose_lookup(9, 1.0), (65535, [0; 3]));
+    let mut count = 7;
+    assert_eq!(words::nose_walk(9, &[], &mut [], &mut count), (65535, 0));
+    assert_eq!(count, 7);
     assert_eq!(words::curve(7, [1.0; 3], &[], &mut []), (65535, [0; 3]));
     let mut longer = [7; 2];
     assert_eq!(words::curve(6, [1.0; 3], &[0.0], &mut longer).0, 0);
