@@ -9,6 +9,8 @@
 //
 // The list, `stdin` beside this folder, is made in compare/:
 //     cargo run --release --offline --bin walk_list > ../crates/walk_vectors/stdin
+ghost use mathlib.Core.Path.{_≡_};
+ghost use lib.ListN.{length};
 use cobalnis::cobalnis_nose_walk;
 use elementary::from_bits;
 use elementary::to_bits;
@@ -24,64 +26,73 @@ const ROOM: usize = QUERIES + 1;
 
 // ---- what a line asks for
 
-// Where a line's item goes, from 0 on, or `ROOM` where the line has no such item or there is no such place.
+// Where a line's item goes, from 0 on, or `ROOM` where the line has no such item.
 fn place_of(line: &[u8], item: u8) -> usize {
     let at = word_at(line, 0);
-    if word_at(line, 1) <= item as u64 || ROOM as u64 <= at {
-        return ROOM;
+    if at < ROOM as u64 && (item as u64) < word_at(line, 1) {
+        at as usize + item as usize
+    } else {
+        ROOM
     }
-    at as usize + item as usize
 }
 
-fn put_one(line: &[u8], item: u8, values: &mut [f64; ROOM]) {
-    let place = place_of(line, item);
-    if place < ROOM {
-        values[place] = from_bits(word_at(line, 2 + item));
+fn put_one(place: usize, word: u64, values: &mut [f64])
+    ensures { λ _. ⌜ length (now (values .exit)) ≡ length (now (values .entry)) ⌝ }
+{
+    if place < values.len() {
+        values[place] = from_bits(word);
     }
 }
 
 // Up to nine queries, or cells.
-fn put(line: &[u8], values: &mut [f64; ROOM]) {
+fn put(line: &[u8], values: &mut [f64]) {
     let mut item = 0u8;
     while item < 9 {
-        put_one(line, item, values);
+        put_one(place_of(line, item), word_at(line, 2 + item), values);
         item += 1;
     }
 }
 
-fn holds_one(line: &[u8], item: u8, cells: &[f64; ROOM]) -> bool {
-    let place = place_of(line, item);
-    if place < ROOM {
-        return to_bits(cells[place]) == word_at(line, 2 + item);
+fn holds_one(place: usize, word: u64, cells: &[f64]) -> bool {
+    if place < cells.len() {
+        to_bits(cells[place]) == word
+    } else {
+        word == 0
     }
-    word_at(line, 1) <= item as u64
 }
 
-// Whether up to nine cells are as the line says.
-fn holds(line: &[u8], cells: &[f64; ROOM]) -> bool {
+// Whether up to nine cells are as the line says; zeros stand where there are fewer.
+fn holds(line: &[u8], cells: &[f64]) -> bool {
     let mut all = true;
     let mut item = 0u8;
     while item < 9 {
-        all = all & holds_one(line, item, cells);
+        all = all & holds_one(place_of(line, item), word_at(line, 2 + item), cells);
         item += 1;
     }
     all
 }
 
 // Whether a walk of the first so many queries, with the first so many cells lent, answers what the line says.
-fn walked(line: &[u8], queries: &[f64; ROOM], cells: &mut [f64; ROOM]) -> bool {
-    let nose = word_at(line, 0);
-    let asked = word_at(line, 1) as usize;
-    let lent = word_at(line, 2) as usize;
-    if 65535 < nose || ROOM < asked || ROOM < lent {
+fn answers(
+    line: &[u8],
+    nose: u32,
+    asked: usize,
+    lent: usize,
+    queries: &[f64],
+    cells: &mut [f64],
+) -> bool {
+    if queries.len() < asked {
+        return false;
+    }
+    if cells.len() < lent {
         return false;
     }
     let mut compared = word_at(line, 3) as usize;
     let mut bits = 0u64;
     let status = cobalnis_nose_walk(
-        nose as u32,
-        &queries[..asked],
-        &mut cells[..lent],
+        nose,
+        &queries[0..asked],
+        &mut cells[0..lent],
         &mut compared,
         &mut bits,
     );
@@ -90,15 +101,17 @@ fn walked(line: &[u8], queries: &[f64; ROOM], cells: &mut [f64; ROOM]) -> bool {
         & (compared as u64 == word_at(line, 6))
 }
 
+fn walked(line: &[u8], queries: &[f64], cells: &mut [f64]) -> bool {
+    let nose = word_at(line, 0);
+    let asked = word_at(line, 1) as usize;
+    let lent = word_at(line, 2) as usize;
+    nose <= 65535 && answers(line, nose as u32, asked, lent, queries, cells)
+}
+
 // ---- replaying
 
 // One line more.
-fn after(
-    counts: Counts,
-    line: &[u8],
-    queries: &mut [f64; ROOM],
-    cells: &mut [f64; ROOM],
-) -> Counts {
+fn after(counts: Counts, line: &[u8], queries: &mut [f64], cells: &mut [f64]) -> Counts {
     if !is_line(line) {
         return counts.counted(31, false);
     }
@@ -124,7 +137,7 @@ struct Turn {
 }
 
 // Reads one line. A last line that is cut off is a line too.
-fn replay_line(counts: Counts, queries: &mut [f64; ROOM], cells: &mut [f64; ROOM]) -> Turn {
+fn replay_line(counts: Counts, queries: &mut [f64], cells: &mut [f64]) -> Turn {
     let mut line = [0u8; 189];
     let n = io::read_full(STDIN_FILENO, &mut line);
     if n == 0 {

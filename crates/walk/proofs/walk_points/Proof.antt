@@ -53,12 +53,16 @@ loop-again c =
     let step = one-more _ _ (leg .result .compared) (a .queries .now) i (c .before .before .before .before .loop-test .taken) (leg .ensures .made (a .drags .now)) in
     let one = ap (λ (w : Walk). w .compared) step in
     let whole = l .loop .inv .3 in
-    let left = walkFrom (standAt (a .machs .now) (a .drags .now) (a .first) (a .count) (leg .result .passed)) (drop (i + 1) (a .queries .now)) .values in
-    (omega arith, leg .ensures .within, length-set (l .loop .answers) i _ ∙ l .loop .inv .2, omega (arith, whole, one),
-    l .loop .inv .4
-    ∙ ap (λ (w : Walk). sets (l .loop .answers) i (w .values)) step
-    ∙ ap (λ (x : Float). sets (set (l .loop .answers) i x) (suc i) left) (sym (c .value-there .ensures))
-    ∙ ap (λ (k : ℕ). sets (set (l .loop .answers) i (c .value-there .result)) k left) (sym (add-one i)))
+    let left = walkFrom (standAt (a .machs .now) (a .drags .now) (a .first) (a .count) (leg .result .passed)) (drop (i + 1) (a .queries .now)) .values in (
+      omega arith,
+      leg .ensures .within,
+      length-set (l .loop .answers) i _ ∙ l .loop .inv .2,
+      omega (arith, whole, one),
+      l .loop .inv .4
+          ∙ ap (λ (w : Walk). sets (l .loop .answers) i (w .values)) step
+          ∙ ap (λ (x : Float). sets (set (l .loop .answers) i x) (suc i) left) (sym (c .value-there .ensures))
+          ∙ ap (λ (k : ℕ). sets (set (l .loop .answers) i (c .value-there .result)) k left) (sym (add-one i)),
+    )
 
 same-length : tie.Need-same-length Inv-loop μ-loop
 same-length c = c .before .loop .inv .2
@@ -68,9 +72,10 @@ unfolding walkFrom
 returns c =
     let l = c .before in
     let a = l .before .before .before .args in
-    let none = ap (walkFrom (standAt (a .machs .now) (a .drags .now) (a .first) (a .count) (l .loop .passed))) (drop-of-length-le (a .queries .now) (c .loop-test .left)) in
-    (sym (l .loop .inv .3 ∙ ap (λ (w : Walk). l .loop .compared + w .compared) none ∙ add-zero _),
-    sym (l .loop .inv .4 ∙ ap (λ (w : Walk). sets (l .loop .answers) (l .loop .i) (w .values)) none))
+    let none = ap (walkFrom (standAt (a .machs .now) (a .drags .now) (a .first) (a .count) (l .loop .passed))) (drop-of-length-le (a .queries .now) (c .loop-test .left)) in (
+      sym (l .loop .inv .3 ∙ ap (λ (w : Walk). l .loop .compared + w .compared) none ∙ add-zero _),
+      sym (l .loop .inv .4 ∙ ap (λ (w : Walk). sets (l .loop .answers) (l .loop .i) (w .values)) none),
+    )
 
 pub walk-points-spec : {M : Type 1} → statement M
 walk-points-spec =
