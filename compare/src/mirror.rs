@@ -94,12 +94,7 @@ pub fn nose_lookup(nose: u32, mach: f64) -> (u32, [u64; 3]) {
 }
 
 /// A nose's value at each Mach number by the original's own lookup, and the count of a plain walk.
-pub fn nose_walk(
-    nose: u32,
-    machs: &[f64],
-    values: &mut [f64],
-    compared: &mut usize,
-) -> (u32, u64) {
+pub fn nose_walk(nose: u32, machs: &[f64], values: &mut [f64], compared: &mut usize) -> (u32, u64) {
     let Some(nose) = StoneyNose::ALL.get(nose as usize) else {
         return (NO_SUCH, 0);
     };

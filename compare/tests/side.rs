@@ -44,10 +44,7 @@ fn all_noses() {
 
 #[test]
 fn all_walks() {
-    agrees(
-        &walks::walks(COUNT, &mut Random::new(6)),
-        &[0, 1, 10, 16],
-    );
+    agrees(&walks::walks(COUNT, &mut Random::new(6)), &[0, 1, 10, 16]);
 }
 
 #[test]

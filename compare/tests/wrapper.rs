@@ -103,6 +103,11 @@ fn noses_of_the_same_name() {
             let mach = f64::from(i) * 0.01;
             assert_eq!(ours.value_and_slope(mach), theirs.value_and_slope(mach));
         }
+        let machs: Vec<f64> = (0..256).map(|i| f64::from(i) * 0.01).collect();
+        let mut drags = [0.0; 256];
+        for (mach, drag) in ours.walk(&machs, &mut drags).expect("rising") {
+            assert_eq!(drag, theirs.value_and_slope(mach).0);
+        }
     }
 }
 

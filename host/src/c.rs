@@ -166,12 +166,7 @@ pub fn nose_lookup(nose: u32, mach: f64) -> (u32, [u64; 3]) {
 
 /// A status, and the bits of the value refused; the values go to `values`, how many times a Mach
 /// number was set against a point to `compared`.
-pub fn nose_walk(
-    nose: u32,
-    machs: &[f64],
-    values: &mut [f64],
-    compared: &mut usize,
-) -> (u32, u64) {
+pub fn nose_walk(nose: u32, machs: &[f64], values: &mut [f64], compared: &mut usize) -> (u32, u64) {
     let mut bits = 0;
     // SAFETY: each pointer comes with its slice's own length; `values` and `compared` are borrowed
     // mutably and `bits` is our own, so that nothing overlaps.

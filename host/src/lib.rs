@@ -36,9 +36,10 @@ pub use c::raw;
 /// The types above are made of these; a host has them for sheets that it keeps as plain memory.
 pub mod words {
     pub use crate::c::{
-        check_dimension, classify, curve, formula, insert, nose_lookup, nose_point, nose_walk, open,
-        print, read_part, read_settings, remove, replace, set_column, takes_cone_formula, PartWords,
-        SheetWords, FIRST_PART, MACHS_AT, PARTS_AT, PART_WORDS, REYNOLDS_AT, SHEET_WORDS,
+        check_dimension, classify, curve, formula, insert, nose_lookup, nose_point, nose_walk,
+        open, print, read_part, read_settings, remove, replace, set_column, takes_cone_formula,
+        PartWords, SheetWords, FIRST_PART, MACHS_AT, PARTS_AT, PART_WORDS, REYNOLDS_AT,
+        SHEET_WORDS,
     };
     pub use crate::sheet::LONGEST_TEXT;
 }

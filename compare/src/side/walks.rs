@@ -26,8 +26,10 @@ pub fn walks(count: u64, random: &mut Random) -> Row {
         let theirs = mirror::nose_walk(nose, &machs, &mut their_cells, &mut their_count);
         let same = bits(&port_cells) == bits(&their_cells) && port_count == their_count;
         row.note(theirs.0, port == theirs && same, || {
+            let mut input = vec![nose.into()];
+            input.extend(bits(&machs));
             let of = |answer: (u32, u64), count: usize| [answer.0.into(), answer.1, count as u64];
-            written(&bits(&machs), &of(port, port_count), &of(theirs, their_count))
+            written(&input, &of(port, port_count), &of(theirs, their_count))
         });
     }
     row

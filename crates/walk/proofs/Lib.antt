@@ -1,4 +1,5 @@
--- The walk as told and the single lookup agree; its count is at most queries plus points; a turn of the program's loops.
-pub mod Agree
-pub mod Bound
+-- The count by hand at two walks, its bound, and what it is; the walk's values are the single lookup's; a turn of the program's loops.
+pub mod ByHand
+pub mod Count
+pub mod SingleLookup
 pub mod Turns

@@ -1,8 +1,7 @@
 -- A turn of the program's loops: one point more is met by a query, the table is read where it ends, and one query more is answered.
-use mathlib.Core.Path.{_≡_, refl, sym, ap, _∙_}
+use mathlib.Core.Path.{_≡_, refl, ap, _∙_}
 use mathlib.Core.Bool.{true, false}
 use mathlib.Core.List.{List, [], _∷_}
-use mathlib.Core.Option.{none, some}
 use Prim.Native.Nat.{ℕ, zero, suc, _+_, _-_, _≤_, _<_}
 use native.Mathlib.Numerals.{add-one}
 use native.Mathlib.Nat.{add-zero, zero-add}
@@ -10,12 +9,11 @@ use native.Mathlib.Omega.{arith}
 use lib.ListN.{length, getD, drop}
 use lib.Seq.{drop-cons}
 use lib.Ieee.{Float, nan}
-use Rattle.elementary.specs.Arithmetic.{_≼_}
 use Rattle.stoney.specs.Points.{Point}
 use Rattle.stoney.specs.Lookup.{before, line, held}
 use Rattle.stoney.specs.Stored.{pointIn, stretch}
-use Rattle.walk.specs.Walk.{Stand, Went, Walk, leg, went, once-more, readAt, walkFrom}
-use Rattle.walk.specs.Places.{lastPassed, standAt}
+use Rattle.walk.specs.Walk.{Stand, Went, reached, leg, went, once-more, readAt, walkFrom}
+use Rattle.walk.specs.Places.{standAt}
 
 -- so many comparisons before
 abbrev pub after : ℕ → Went → Went
@@ -47,12 +45,12 @@ module _ (machs drags : List Float) (first count : ℕ) where
 
   -- after n comparisons
   module _ (M : Float) (n : ℕ) where
-    pub moves : (k : ℕ) → k < count → (here k .mach ≼ M) ≡ true
+    pub moves : (k : ℕ) → k < count → reached (here k) M ≡ true
         → after n (went (standAt machs drags first count k) M) ≡ after (n + 1) (went (standAt machs drags first count (k + 1)) M)
     unfolding leg
     moves k h e = rw (ahead-of k h, e, add-one k) (after-more n _)
 
-    pub stops : (k : ℕ) → k < count → (here k .mach ≼ M) ≡ false → after n (went (standAt machs drags first count k) M) ≡ record { compared = n + 1; ends = standAt machs drags first count k }
+    pub stops : (k : ℕ) → k < count → reached (here k) M ≡ false → after n (went (standAt machs drags first count k) M) ≡ record { compared = n + 1; ends = standAt machs drags first count k }
     unfolding leg
     stops k h e = rw (ahead-of k h, e)
 

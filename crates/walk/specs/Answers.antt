@@ -1,10 +1,9 @@
--- What a call answers and leaves in the answer cells. Accepted: the count of the walk, and in the first cells the single lookup's value at each Mach; the cells
--- after them stay. Refused: the first test that fails, and every cell stays.
+-- What a call answers and leaves in the answer cells. Accepted: the count of the walk, and the single lookup's value at each Mach, then the cells that stood there.
+-- Refused: the first test that fails, and all cells as they were.
 use mathlib.Core.Path.{_≡_}
-use mathlib.Core.List.{List, map}
+use mathlib.Core.List.{List, _++_, map}
 use Prim.Native.Nat.{ℕ}
-use lib.ListN.{length}
-use lib.Seq.{sets}
+use lib.ListN.{length, drop}
 use lib.Ieee.{Float}
 use Rattle.aero_error.specs.declared.Check.{Check}
 use Rattle.aero_error.specs.Checks.{after}
@@ -30,4 +29,4 @@ valuesOf nose Ms = map (λ M. valueAndSlope nose M .value) Ms
 -- the answer r to the queries Ms, and the answer cells before (xs) and after (ys)
 pub record Answered (nose : StoneyNose) (Ms xs : List Float) (r : Walked) (ys : List Float) : Type 0 where
   pub answer : r ≡ walkedAs (flightTest Ms (length xs)) (countOf nose Ms)
-  pub cells : ys ≡ after (λ e. xs) (flightTest Ms (length xs)) (sets xs 0 (valuesOf nose Ms))
+  pub cells : ys ≡ after (λ e. xs) (flightTest Ms (length xs)) (valuesOf nose Ms ++ drop (length Ms) xs)

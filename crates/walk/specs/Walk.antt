@@ -1,6 +1,6 @@
 -- The walk along a table, query by query: "The walk starts at the first point; a query is set against the current point, moves one on while that point is at
 -- or below it, and ends at a higher point or past the last." Each query begins where the one before ended.
-use mathlib.Core.Bool.{cond}
+use mathlib.Core.Bool.{Bool, cond}
 use mathlib.Core.List.{List, [], _∷_}
 use mathlib.Core.Option.{Option, none, some}
 use Prim.Native.Nat.{ℕ, suc, _+_}
@@ -25,11 +25,15 @@ pub record Went : Type 0 where
 abbrev pub once-more : Went → Went
 once-more w = record { compared = suc (w .compared); ends = w .ends }
 
+-- "at or below it"
+abbrev pub reached : Point → Float → Bool
+reached p M = p .mach ≼ M
+
 -- past the last point it is set against none
 unfoldable pub leg : Option Point → List Point → Float → Went
 leg passed [] M = record { compared = 0; ends = record { passed = passed; ahead = [] } }
 leg passed (p ∷ ahead) M =
-    cond (p .mach ≼ M)
+    cond (reached p M)
     (once-more (leg (some p) ahead M))
     (record { compared = 1; ends = record { passed = passed; ahead = p ∷ ahead } })
 

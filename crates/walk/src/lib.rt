@@ -4,12 +4,11 @@
 ghost use mathlib.Core.Path.{_≡_};
 ghost use Prim.Native.Nat.{_≤_};
 ghost use lib.ListN.{length};
-ghost use lib.Seq.{sets};
 ghost use Rattle.stoney.specs.Stored.{Stored};
 ghost use Rattle.walk.specs.Tests.{givenTest, risingTest, most-queries};
 ghost use Rattle.walk.specs.Walk.{readAt, walkFrom, walkOf};
 ghost use Rattle.walk.specs.Answers.{walkedAs, Answered};
-ghost use Rattle.walk.specs.Places.{standAt, LegMade};
+ghost use Rattle.walk.specs.Places.{standAt, LegMade, WalkMade};
 use aero_error::AeroError;
 use aero_error::Check;
 use aero_error::Rule;
@@ -117,7 +116,7 @@ fn walk_points(
     answers: &mut [f64],
 ) -> usize
     requires { ⌜ Stored first count × (length (now queries) ≤ length (now answers)) × (length (now queries) ≤ most-queries) ⌝ }
-    ensures { λ r. ⌜ (r ≡ walkFrom (standAt (now (machs .entry)) (now (drags .entry)) first count 0) (now (queries .entry)) .compared) × (now (answers .exit) ≡ sets (now (answers .entry)) 0 (walkFrom (standAt (now (machs .entry)) (now (drags .entry)) first count 0) (now (queries .entry)) .values)) ⌝ }
+    ensures { λ r. ⌜ WalkMade (walkFrom (standAt (now (machs .entry)) (now (drags .entry)) first count 0) (now (queries .entry))) (now (answers .entry)) r (now (answers .exit)) ⌝ }
 {
     let mut passed = 0usize;
     let mut compared = 0usize;
@@ -136,7 +135,7 @@ fn walk_points(
 // The walk along a nose's table.
 fn walk_table(nose: StoneyNose, queries: &[f64], answers: &mut [f64]) -> usize
     requires { ⌜ (length (now queries) ≤ length (now answers)) × (length (now queries) ≤ most-queries) ⌝ }
-    ensures { λ r. ⌜ (r ≡ walkOf nose (now (queries .entry)) .compared) × (now (answers .exit) ≡ sets (now (answers .entry)) 0 (walkOf nose (now (queries .entry)) .values)) ⌝ }
+    ensures { λ r. ⌜ WalkMade (walkOf nose (now (queries .entry))) (now (answers .entry)) r (now (answers .exit)) ⌝ }
 {
     let machs = MACH;
     let drags = DRAG;

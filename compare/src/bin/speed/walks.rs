@@ -11,15 +11,8 @@ use compare::original_fixed::StoneyNose;
 use crate::timing::{measure, row, Times};
 
 type Lookup = unsafe extern "C" fn(u32, f64, *mut [u64; 3]) -> u32;
-type Walk = unsafe extern "C" fn(
-    u32,
-    *const f64,
-    usize,
-    *mut f64,
-    usize,
-    *mut usize,
-    *mut u64,
-) -> u32;
+type Walk =
+    unsafe extern "C" fn(u32, *const f64, usize, *mut f64, usize, *mut usize, *mut u64) -> u32;
 
 type Flight = (u32, [f64; QUERIES]);
 
@@ -76,10 +69,7 @@ pub fn walks(random: &mut Random) {
         lookup_pass(original, &flights)
     });
     row("a table's single lookup, rising Machs", lookup);
-    let (port, original) = black_box((
-        raw::cobalnis_nose_walk as Walk,
-        theirs::nose_walk as Walk,
-    ));
+    let (port, original) = black_box((raw::cobalnis_nose_walk as Walk, theirs::nose_walk as Walk));
     let walk = measure(calls, &mut || walk_pass(port, &flights), &mut || {
         walk_pass(original, &flights)
     });

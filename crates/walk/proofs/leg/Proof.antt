@@ -1,12 +1,11 @@
 -- `leg` meets its contract. The loop's invariant: the query as told is what it has met so far, and then the query from the points that are left.
-use mathlib.Core.Path.{_≡_, refl, sym, ap, _∙_}
+use mathlib.Core.Path.{_≡_, _∙_}
 use mathlib.Core.List.{List}
-use Prim.Native.Nat.{ℕ, suc, _+_, _-_, _≤_}
-use native.Mathlib.Numerals.{add-one}
+use Prim.Native.Nat.{_-_, _≤_}
 use native.Mathlib.Omega.{arith}
 use lib.Ieee.{Float}
-use Rattle.walk.specs.Walk.{Went, went}
-use Rattle.walk.specs.Places.{standAt, LegMade}
+use Rattle.walk.specs.Walk.{went}
+use Rattle.walk.specs.Places.{standAt}
 use Rattle.walk.proofs.Turns.{after, after-none, moves, stops, ends-past}
 use Rattle.walk.proofs.leg.Statement.{statement}
 use Rattle.walk.proofs.leg.Tie as tie

@@ -1,11 +1,8 @@
 -- `value_there` meets its contract: before the first point, between two, or past the last, as the definition reads there.
 use borrow.Author.Needs.{needs}
-use mathlib.Core.Path.{_≡_, sym, ap, _∙_}
+use mathlib.Core.Path.{sym, ap, _∙_}
 use native.Mathlib.Omega.{arith}
-use lib.Ieee.{Float}
 use Rattle.stoney.specs.declared.ValueAndSlope.{ValueAndSlope}
-use Rattle.walk.specs.Walk.{readAt}
-use Rattle.walk.specs.Places.{standAt}
 use Rattle.walk.proofs.Turns.{at-first, in-between, at-end}
 use Rattle.walk.proofs.value_there.Statement.{statement}
 use Rattle.walk.proofs.value_there.Tie as tie

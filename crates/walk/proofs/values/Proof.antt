@@ -1,11 +1,12 @@
 -- `values` meets its contract: a failed test is the answer, and what is written once all have passed is the walk's, whose values are the single lookup's.
-use mathlib.Core.Path.{_≡_, refl, sym, ap, _∙_}
-use mathlib.Core.List.{List}
-use Prim.Native.Nat.{ℕ, _≤_}
+use mathlib.Core.Path.{_≡_, sym, ap, _∙_}
+use mathlib.Core.List.{List, _++_}
+use Prim.Native.Nat.{ℕ, _+_, _≤_}
+use native.Mathlib.Omega.{arith}
 use lib.Dec.{ltb}
 use borrow.Author.Tests.{ltb-false}
-use lib.ListN.{length}
-use lib.Seq.{sets}
+use lib.ListN.{length, drop, length-map}
+use lib.Seq.{sets, sets-eq}
 use lib.Ieee.{Float}
 use borrow.Author.Needs.{needs}
 use Rattle.aero_error.specs.declared.AeroError.{AeroError}
@@ -20,20 +21,12 @@ use Rattle.walk.specs.declared.Walked.{Walked}
 use Rattle.walk.specs.Tests.{most-queries, roomTest, givenTest, risingTest, flightTest}
 use Rattle.walk.specs.Walk.{walkOf}
 use Rattle.walk.specs.Answers.{walkedAs, countOf, valuesOf, Answered}
-use Rattle.walk.proofs.Agree.{agree}
+use Rattle.walk.proofs.SingleLookup.{agree}
 use Rattle.walk.proofs.values.Statement.{statement}
 use Rattle.walk.proofs.values.Tie as tie
 
 tested : (Ms : List Float) (cells : ℕ) (given rising check : Check) → given ≡ givenTest Ms cells → rising ≡ risingTest Ms → check ≡ (given then rising) → check ≡ flightTest Ms cells
 tested Ms cells given rising check g r e = e ∙ rw (g, r)
-
-module _ (nose : StoneyNose) (Ms xs : List Float) (check : Check) (is : check ≡ flightTest Ms (length xs)) where
-  refused : (r : Walked) (e : AeroError) → check ≡ Failed e → r ≡ walkedAs check 0 → Answered nose Ms xs r xs
-  refused r e failed answer = record { answer = rw (← is, failed) (answer ∙ rw failed); cells = rw (← is, failed) }
-
-  accepted : (r : Walked) (n : ℕ) (ys : List Float) → check ≡ Passed → r ≡ walkedAs check n → n ≡ countOf nose Ms → ys ≡ sets xs 0 (walkOf nose Ms .values) → Answered nose Ms xs r ys
-  accepted r n ys passed answer count cells =
-      record { answer = rw (← is, passed, ← count) (answer ∙ rw passed); cells = rw (← is, passed, ← agree nose Ms (length xs) (sym is ∙ passed)) cells }
 
 room : (Ms : List Float) (cells : ℕ) → flightTest Ms cells ≡ Passed → (length Ms ≤ cells) × (length Ms ≤ most-queries)
 room Ms cells h =
@@ -41,6 +34,21 @@ room Ms cells h =
     let lent = unless (ltb cells (length Ms)) TooFewCells in
     let b = both-passed few lent (both-passed (roomTest Ms cells) (machsTest Ms) (both-passed (givenTest Ms cells) (risingTest Ms) h .first) .first) in
     (ltb-false cells (length Ms) (unless-passed _ TooFewCells (b .second)), ltb-false most-queries (length Ms) (unless-passed _ TooFewCells (b .first)))
+
+-- put into the first cells, with the others after them
+front : (vs : List Float) (n : ℕ) (xs : List Float) → length vs ≡ n → n ≤ length xs → sets xs 0 vs ≡ vs ++ drop n xs
+front vs n xs e h = let k : 0 + length vs ≡ n = omega arith in sets-eq vs xs 0 (omega arith) ∙ ap (λ (m : ℕ). vs ++ drop m xs) k
+
+module _ (nose : StoneyNose) (Ms xs : List Float) (check : Check) (is : check ≡ flightTest Ms (length xs)) where
+  refused : (r : Walked) (e : AeroError) → check ≡ Failed e → r ≡ walkedAs check 0 → Answered nose Ms xs r xs
+  refused r e failed answer = record { answer = rw (← is, failed) (answer ∙ rw failed); cells = rw (← is, failed) }
+
+  accepted : (r : Walked) (n : ℕ) (ys : List Float) → check ≡ Passed → r ≡ walkedAs check n → n ≡ countOf nose Ms → ys ≡ sets xs 0 (walkOf nose Ms .values) → Answered nose Ms xs r ys
+  accepted r n ys passed answer count cells =
+      record {
+        answer = rw (← is, passed, ← count) (answer ∙ rw passed);
+        cells = rw (← is, passed) (cells ∙ ap (sets xs 0) (agree nose Ms (length xs) (sym is ∙ passed)) ∙ front (valuesOf nose Ms) (length Ms) xs (length-map Ms _) (room Ms (length xs) (sym is ∙ passed) .0));
+      }
 
 returns : tie.Need-returns
 returns c =

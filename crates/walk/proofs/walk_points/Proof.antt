@@ -1,7 +1,6 @@
 -- `walk_points` meets its contract. The loop's invariant: the whole walk is what was counted and written so far, and then the walk of the queries that are left
 -- from where the last one ended. The sum stays small since the whole count is at most queries plus points.
 use mathlib.Core.Path.{_≡_, refl, sym, ap, _∙_}
-use mathlib.Core.List.{List}
 use Prim.Native.Nat.{ℕ, suc, _+_, _-_, _≤_}
 use native.Mathlib.Numerals.{add-one}
 use native.Mathlib.Nat.{zero-add, add-zero}
@@ -12,7 +11,7 @@ use lib.Ieee.{Float}
 use borrow.Author.Needs.{needs}
 use Rattle.walk.specs.Walk.{Walk, walkFrom}
 use Rattle.walk.specs.Places.{standAt}
-use Rattle.walk.proofs.Bound.{walk-most}
+use Rattle.walk.proofs.Count.{walk-most}
 use Rattle.walk.proofs.Turns.{one-more, stretch-long}
 use Rattle.walk.proofs.walk_points.Statement.{statement}
 use Rattle.walk.proofs.walk_points.Tie as tie

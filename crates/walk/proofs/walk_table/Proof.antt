@@ -4,7 +4,6 @@ use mathlib.Core.List.{List}
 use Prim.Native.Nat.{_-_}
 use native.Mathlib.Nat.{add-zero}
 use native.Mathlib.Omega.{arith}
-use lib.Seq.{sets}
 use lib.Ieee.{Float, ofBits, round}
 use borrow.Author.Needs.{needs}
 use Rattle.stoney.specs.declared.StoneyNose.{StoneyNose}
@@ -12,7 +11,7 @@ use Rattle.stoney.specs.Points.{points, all-points, rangeOf, range-within}
 use Rattle.stoney.specs.Stored.{stored-machs, stored-drags, own-stretch}
 use Rattle.stoney.specs.declared.PointRange.{PointRange}
 use Rattle.walk.specs.Walk.{Stand, Walk, walkFrom, walkOf, start}
-use Rattle.walk.specs.Places.{standAt}
+use Rattle.walk.specs.Places.{standAt, WalkMade}
 use Rattle.walk.proofs.walk_table.Statement.{statement}
 use Rattle.walk.proofs.walk_table.Tie as tie
 
@@ -35,7 +34,7 @@ returns : tie.Need-returns
 unfolding points all-points ofBits round
 returns c =
     let a = c .before .before .before .before .before .before .before .before .before .args in
-    own (a .nose) _ (a .queries .now) (λ w. (c .before .before .walk-points .result ≡ w .compared) × (c .before .before .walk-points .last .1 .1 .1 .1 .1 .0 ≡ sets (a .answers .now) 0 (w .values)))
+    own (a .nose) _ (a .queries .now) (λ w. WalkMade w (a .answers .now) (c .before .before .walk-points .result) (c .before .before .walk-points .last .1 .1 .1 .1 .1 .0))
     (c .before .before .before .before .before .before .points .ensures) (c .before .before .walk-points .ensures)
 
 pub walk-table-spec : {M : Type 1} → statement M

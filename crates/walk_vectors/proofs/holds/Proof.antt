@@ -1,8 +1,6 @@
 -- `walk_vectors::holds` is safe and ends: the measure is how many cells are left of the nine.
-use mathlib.Core.Path.{_≡_, refl, _∙_}
 use native.Mathlib.Omega.{arith}
 use Prim.Native.Nat.{_-_, _≤_}
-use lib.ListN.{length}
 use Rattle.walk_vectors.proofs.holds.Statement.{statement}
 use Rattle.walk_vectors.proofs.holds.Tie as tie
 

@@ -1,10 +1,9 @@
 -- The count of a walk along the von Kármán nose's table, point by point as on paper. Its first points are at Mach 0.8, 0.85, 0.9 and 0.915.
-use mathlib.Core.List.{List, [], _∷_}
+use mathlib.Core.List.{List, [], _∷_, _++_}
 use mathlib.Core.Bool.{false}
 use Prim.Native.Nat.{ℕ}
 use lib.Dec.{T, eqb}
 use lib.Ieee.{Float, binary64, round, lt, eq, le}
-use Rattle.elementary.specs.Constants.{0·5, 0·8}
 use Rattle.stoney.specs.declared.StoneyNose.the-variants.{VonKarman}
 use Rattle.stoney.specs.Points.{points}
 use Rattle.walk.specs.Walk.{leg, walkFrom, walkOf}
@@ -31,6 +30,6 @@ pub by-hand : T (eqb (counts flight) 7)
 unfolding walkOf walkFrom leg points round lt eq le
 by-hand = tt
 
-pub past-the-last : T (eqb (counts (tenths 5 ∷ tenths 8 ∷ tenths 8 ∷ tenths 9 ∷ tenths 20 ∷ tenths 30 ∷ [])) 22)
+pub past-the-last : T (eqb (counts (flight ++ tenths 20 ∷ tenths 30 ∷ [])) 22)
 unfolding walkOf walkFrom leg points round lt eq le
 past-the-last = tt
