@@ -2,11 +2,13 @@
 -- Refused: the first test that fails, and all cells as they were.
 use mathlib.Core.Path.{_≡_}
 use mathlib.Core.List.{List, _++_, map}
+use mathlib.Core.Option.{Option, none, some}
 use Prim.Native.Nat.{ℕ}
 use lib.ListN.{length, drop}
 use lib.Ieee.{Float}
 use Rattle.aero_error.specs.declared.Check.{Check}
 use Rattle.aero_error.specs.Checks.{after}
+use Rattle.aero_error.specs.Told.{Told, toldOf}
 use Rattle.stoney.specs.declared.StoneyNose.{StoneyNose}
 use Rattle.stoney.specs.Lookup.{valueAndSlope}
 use Rattle.walk.specs.declared.Walked.{Walked}
@@ -17,6 +19,10 @@ use Rattle.walk.specs.Walk.{walkOf}
 -- the count where the tests have passed, or their refusal
 abbrev pub walkedAs : Check → ℕ → Walked
 walkedAs check compared = after Refused check (Compared compared)
+
+abbrev pub toldOfWalk : Walked → Option Told
+toldOfWalk (Compared n) = none
+toldOfWalk (Refused e) = some (toldOf e)
 
 -- "the number of times a query was set against a table point"
 abbrev pub countOf : StoneyNose → List Float → ℕ
