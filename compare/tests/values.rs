@@ -2,6 +2,7 @@
 //! of it: they say that the right text was cut and that the fixed steps stand where they should.
 
 use compare::inputs::{up, NANS};
+use compare::mirror::nose_walk;
 use compare::refusals::{code, Answer, CODES};
 use compare::{fixed, original_fixed as rust, original_plain as plain};
 use rust::{NoseShape, PressureDragCurve, StoneyNose};
@@ -115,6 +116,24 @@ fn stoney_tables() {
         assert_eq!(nose.first_mach(), nose.points()[0].0);
     }
     assert_eq!((StoneyNose::ALL.len(), points), (9, 149));
+}
+
+/// The walk that docs/REFERENCE.md, Walk, tells point by point, and its refusals in their order.
+#[test]
+fn walk_on_paper() {
+    let walk = |machs: &[f64], cells: usize| {
+        let (mut values, mut compared) = (vec![7.0; cells], 7);
+        let status = nose_walk(8, machs, &mut values, &mut compared).0;
+        (status, compared)
+    };
+    let machs = [0.5, 0.8, 0.8, 0.9, 2.0, 3.0];
+    for (asked, compared) in [(0, 0), (1, 1), (2, 3), (3, 4), (4, 7), (5, 22), (6, 22)] {
+        assert_eq!(walk(&machs[..asked], 6), (0, compared));
+    }
+    assert_eq!(walk(&[1.0, 0.9], 2), (16, 7));
+    assert_eq!(walk(&[1.0, 0.9, -1.0], 3), (257, 7));
+    assert_eq!(walk(&[1.0, 0.9, -1.0], 2), (10, 7));
+    assert_eq!(walk(&[1.0; 257], 257), (10, 7));
 }
 
 /// The original's own worked example: a 5:1 von Kármán nose at Mach 1.5 drags 0.0407.
