@@ -9,13 +9,13 @@ use lib.ListN.{getD}
 use lib.Ieee.{Float}
 use Rattle.aero_error.specs.declared.Check.{Check}
 use Rattle.aero_error.specs.declared.Check.the-variants.{Passed, Failed}
-use Rattle.drag.specs.Friction.{machChecked}
+use Rattle.drag.specs.Friction.{machChecked, machsTest}
 use Rattle.aero_error.specs.Checks.{upTo}
 use Rattle.nose_drag.specs.declared.curve.PressureDragCurve.{PressureDragCurve}
 use Rattle.nose_drag.specs.declared.builder.Curve.{Curve}
 use Rattle.nose_drag.specs.declared.builder.Curve.the-variants.{Built, Refused as NotBuilt}
 use Rattle.cobalnis.specs.Words.{spread}
-use Rattle.cobalnis.specs.Answers.{machsTest, curveOf, ReadAt, CurveAnswered}
+use Rattle.cobalnis.specs.Answers.{curveOf, ReadAt, CurveAnswered}
 use Rattle.formula_vectors.specs.Lines.{readAnswer, curveAnswer, curveWords, curveAt}
 use Rattle.formula_vectors.proofs.curve.Statement.{statement}
 use Rattle.formula_vectors.proofs.curve.Tie as tie
