@@ -1,6 +1,6 @@
 // The library for programs in C and Rust (`rt staticlib cobalnis`): functions on numbers and slices that reach every function of
-// docs/REFERENCE.md, Ported, the sheet's calls, the cards and a float's class. Each tests its own input, and none has a `requires`; what a caller owes is valid
-// memory alone.
+// docs/REFERENCE.md, Ported, the walk along a table, the sheet's calls, the cards and a float's class. Each tests its own input, and none has a
+// `requires`; what a caller owes is valid memory alone.
 //
 // An answer is a status: 0 is accepted, else the refusal's number plus 256 times the code of refusal 1; `NO_SUCH` is for a number that names
 // nothing. `cobalnis_classify` answers a class's number, `cobalnis_print` how many bytes it wrote. A float is handed out by its bits, 7ff8000000000000 for every NaN. `words` has a part and a sheet as words.

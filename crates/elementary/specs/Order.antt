@@ -1,17 +1,15 @@
--- The order of floats, as a walk through rising numbers needs it: what is at or below M is not above it (any two floats), what is not above it is at or below it
--- (two finite ones), and `≼` and `≺` go through a number that is finite and above zero.
+-- The order of floats, as a walk through rising numbers needs it: what is at or below M is not above it (any two floats), and `≼` and `≺` go through a number
+-- that is finite and above zero.
 use mathlib.Core.Path.{_≡_, refl, sym, subst}
 use mathlib.Core.Bool.{Bool, true, false, _&&_, _||_}
 use Prim.Native.Nat.{ℕ, _+_, _*_, _≤_, _<_}
-use mathlib.Core.Logic.{inl, inr}
-use native.Mathlib.Nat.{le-refl, le-of-eq, le-of-lt, lt-of-not-le, not-le-of-lt, eq-or-lt-of-le, mul-pos}
+use native.Mathlib.Nat.{le-refl, le-of-eq, le-of-lt, lt-of-not-le, not-le-of-lt, mul-pos}
 use native.Mathlib.Omega.{arith}
 use lib.Dec.{T, ltb, eqb, eqb→eq, ltb→lt, lt→ltb}
 use lib.Ieee.{Float, nan, inf, fin, up, down, below, level, lt, eq, le}
 use lib.Ieee.Fits.{up-pos, down-pos, and-l, and-r}
 use lib.Ieee.Positive.{num, den, positive, above, above-of-le, le→cross, cross→le, le-trans-positive, through}
-use lib.Ieee.Scale.{finite}
-use borrow.Author.Tests.{le-ltb, lt-ltb, ltb-false, eq-eqb}
+use borrow.Author.Tests.{le-ltb}
 use Rattle.elementary.specs.Arithmetic.{_≺_, _≼_}
 
 -- ---- what is at or below M is not above it
@@ -51,33 +49,6 @@ not-at-most x y h = go (x ≼ y) refl
     go : (b : Bool) → (x ≼ y) ≡ b → (x ≼ y) ≡ false
     go false e = e
     go true e = absurd (subst T (not-above x y (subst T (sym e) tt)) h)
-
--- ---- of two finite numbers, what is not above the other is at or below it
-
-or-true : (c : Bool) → T (c || true)
-or-true true = tt
-or-true false = tt
-
--- x is what the signs decide where a and b are equal
-up-to : (a b : ℕ) (c x : Bool) → a ≤ b → (a < b → c ≡ true) → (a ≡ b → x ≡ true) → T (c || x)
-up-to a b c x h less same = elim (eq-or-lt-of-le h) [ inl e ↦ rw (same e) (or-true c) | inr l ↦ rw (less l) tt ]
-
-not-over : (s t : Bool) (a b : ℕ) → below t b s a ≡ false → T (below s a t b || level s a t b)
-not-over false false a b h = up-to a b _ _ (ltb-false b a h) (lt-ltb a b) (λ e. rw (eq-eqb a b e))
-not-over false true a b h =
-    let z : b + a ≤ 0 = ltb-false 0 (b + a) h in
-    rw (eq-eqb a b (omega arith), eq-eqb a 0 (omega arith)) tt
-not-over true false a b h =
-    up-to 0 (a + b) _ _ (omega arith) (lt-ltb 0 (a + b)) (λ (e : 0 ≡ a + b). rw (eq-eqb a b (omega arith), eq-eqb a 0 (omega arith)))
-not-over true true a b h = up-to b a _ _ (ltb-false a b h) (lt-ltb b a) (λ e. rw (eq-eqb a b (sym e)))
-
-pub at-most-unless-above : (x y : Float) → T (finite x) → T (finite y) → (y ≺ x) ≡ false → T (x ≼ y)
-unfolding le lt eq
-at-most-unless-above nan y f g h = absurd f
-at-most-unless-above (inf s) y f g h = absurd f
-at-most-unless-above (fin s m e) nan f g h = absurd g
-at-most-unless-above (fin s m e) (inf t) f g h = absurd g
-at-most-unless-above (fin s m e) (fin t n d) f g h = not-over s t (m * up e * down d) (n * up d * down e) h
 
 -- ---- through a number that is finite and above zero
 

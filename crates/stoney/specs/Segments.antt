@@ -106,7 +106,7 @@ nose-reaches nose = holds-at (λ nose. reaches (points nose)) all-reach nose
 
 module _ (M : Float) where
   -- M is at or above some point, so at or above the first
-  first-reached : (p : Point) (ps : List Point) (k : ℕ) → T (rises (p ∷ ps)) → k < length (p ∷ ps) → T (getD (p ∷ ps) k no-point .mach ≼ M) → T (p .mach ≼ M)
+  pub first-reached : (p : Point) (ps : List Point) (k : ℕ) → T (rises (p ∷ ps)) → k < length (p ∷ ps) → T (getD (p ∷ ps) k no-point .mach ≼ M) → T (p .mach ≼ M)
   first-reached p ps zero t h l = l
   first-reached p [] (suc k) t h l = absurd (not-suc-le-zero (le-of-suc-le-suc h))
   first-reached p (q ∷ rest) (suc k) t h l =

@@ -10,16 +10,15 @@ use native.Mathlib.Omega.{arith}
 use lib.Dec.{T}
 use lib.ListN.{length}
 use lib.Ieee.{Float}
-use Rattle.elementary.specs.Order.{lt-le, le-through}
 use Rattle.aero_error.specs.declared.Check.the-variants.{Passed}
 use Rattle.stoney.specs.declared.StoneyNose.{StoneyNose}
-use Rattle.stoney.specs.Points.{Point, points, rangeOf, range-within, rises, nose-rises, rises-at, tail-rises}
-use Rattle.stoney.specs.Segments.{count-is}
+use Rattle.stoney.specs.Points.{Point, points, rangeOf, range-within, rises, nose-rises, tail-rises}
+use Rattle.stoney.specs.Segments.{count-is, first-reached}
 use Rattle.walk.specs.Tests.{flightTest}
 use Rattle.walk.specs.Walk.{Stand, reached, leg, went, walkFrom, start, walkOf}
 use Rattle.walk.specs.Cost.{reachedBy, shortOf, last, cost, costOf}
 use Rattle.walk.specs.Answers.{countOf}
-use Rattle.walk.proofs.SingleLookup.{Rising, Caught, first-positive, rest-rises, rest-rising, accepted-rise, at-start, caught}
+use Rattle.walk.proofs.SingleLookup.{Rising, Caught, rest-rises, rest-rising, accepted-rise, at-start, caught}
 
 -- ---- every list
 
@@ -61,22 +60,21 @@ count-most nose Ms = let h = walk-most (start nose) Ms in omega (arith, h, count
 
 module _ (M : Float) where
   -- a point that isn't reached has none after it that is
-  first-reached : (p q : Point) (rest : List Point) → T (rises (p ∷ q ∷ rest)) → reached p M ≡ false → reached q M ≡ false
-  first-reached p q rest t e = go (reached q M) refl
+  next-not-reached : (p q : Point) (rest : List Point) → T (rises (p ∷ q ∷ rest)) → reached p M ≡ false → reached q M ≡ false
+  next-not-reached p q rest t e = go (reached q M) refl
     where
       go : (b : Bool) → reached q M ≡ b → reached q M ≡ false
       go false f = f
-      go true f =
-          absurd (subst T e (le-through (p .mach) (q .mach) M (first-positive p (q ∷ rest) t) (first-positive q rest (tail-rises p q rest t)) (lt-le (p .mach) (q .mach) (rises-at (p ∷ q ∷ rest) 0 t (omega arith))) (subst T (sym f) tt)))
+      go true f = absurd (subst T e (first-reached M p (q ∷ rest) 1 t (omega arith) (subst T (sym f) tt)))
 
   none-after : (p : Point) (ps : List Point) → T (rises (p ∷ ps)) → reached p M ≡ false → reachedBy M ps ≡ 0
   unfolding reachedBy
   none-after p [] t e = refl
-  none-after p (q ∷ rest) t e = let f = first-reached p q rest t e in rw f (none-after q rest (tail-rises p q rest t) f)
+  none-after p (q ∷ rest) t e = let f = next-not-reached p q rest t e in rw f (none-after q rest (tail-rises p q rest t) f)
 
   last-not-reached : (p : Point) (ps : List Point) → T (rises (p ∷ ps)) → reached p M ≡ false → reached (last (p ∷ ps)) M ≡ false
   last-not-reached p [] t e = e
-  last-not-reached p (q ∷ rest) t e = last-not-reached q rest (tail-rises p q rest t) (first-reached p q rest t e)
+  last-not-reached p (q ∷ rest) t e = last-not-reached q rest (tail-rises p q rest t) (next-not-reached p q rest t e)
 
   -- the points passed are those at or below M
   left-over : (passed : Option Point) (ps : List Point) → T (rises ps) → length (leg passed ps M .ends .ahead) + reachedBy M ps ≡ length ps

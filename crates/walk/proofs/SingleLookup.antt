@@ -8,12 +8,13 @@ use Prim.Native.Nat.{ℕ, suc, _-_, _<_}
 use native.Mathlib.Omega.{arith}
 use lib.Dec.{T}
 use lib.ListN.{length, getD}
-use lib.Ieee.{Float, nan, inf, fin}
+use lib.Ieee.{Float, nan}
 use lib.Ieee.Bits.{is-true}
-use lib.Ieee.Positive.{positive, above, positive-finite, above-of-le}
+use lib.Ieee.Positive.{positive}
 use lib.Ieee.Scale.{finite}
 use Rattle.elementary.specs.Arithmetic.{_≺_}
-use Rattle.elementary.specs.Order.{not-above, at-most-unless-above, le-through}
+use Rattle.elementary.specs.Order.{not-above, le-through}
+use Rattle.elementary.proofs.Ranges.{reaches, positive-from}
 use Rattle.aero_error.specs.declared.Check.the-variants.{Passed}
 use Rattle.aero_error.specs.Checks.{unless}
 use Rattle.aero_error.specs.CheckLaws.{both-passed, up-each, unless-passed}
@@ -45,7 +46,7 @@ module _ (M : Float) (good : T (finite M)) where
     where
       go : (b : Bool) → short-of M p ≡ b → short-of M p ≡ true
       go true f = f
-      go false f = absurd (subst T e (at-most-unless-above (p .mach) M (positive-finite (p .mach) t) good f))
+      go false f = absurd (subst T e (reaches (p .mach) M t good f))
 
   passes : (p : Point) → reached p M ≡ true → short-of M p ≡ false
   passes p e = not-above (p .mach) M (subst T (sym e) tt)
@@ -72,14 +73,7 @@ module _ (M : Float) (good : T (finite M)) where
 
 -- what is at or below M is at or below a later query N
 still-below : (p : Point) (M N : Float) → T (positive (p .mach)) → T (finite M) → T (finite N) → (N ≺ M) ≡ false → T (reached p M) → T (reached p N)
-still-below p M N t f g later h =
-    le-through (p .mach) M N t (finite-above M f (above-of-le (p .mach) M t h)) h (at-most-unless-above M N f g later)
-  where
-    finite-above : (x : Float) → T (finite x) → T (above x) → T (positive x)
-    finite-above nan f a = absurd f
-    finite-above (inf s) f a = absurd f
-    finite-above (fin true m e) f a = absurd a
-    finite-above (fin false m e) f a = a
+still-below p M N t f g later h = let m : T (positive M) = positive-from (p .mach) M t f h in le-through (p .mach) M N t m h (reaches M N m g later)
 
 module _ (M N : Float) (f : T (finite M)) (g : T (finite N)) (later : (N ≺ M) ≡ false) where
   goes-on : (passed : Option Point) (ps : List Point) → T (rises ps) → went (leg passed ps M .ends) N .ends ≡ leg passed ps N .ends

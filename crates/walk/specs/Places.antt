@@ -20,7 +20,6 @@ standAt machs drags first count k = record { passed = lastPassed machs drags fir
 
 -- the query M with `from` points passed before it; only the points' Machs are looked at
 pub record LegMade (machs : List Float) (first count from : ℕ) (M : Float) (r : QueryEnd) : Type 0 where
-  pub onward : from ≤ r .passed
   pub within : r .passed ≤ count
   pub made : (drags : List Float) → went (standAt machs drags first count from) M ≡ record { compared = r .compared; ends = standAt machs drags first count (r .passed) }
 

@@ -29,7 +29,8 @@ once-more w = record { compared = suc (w .compared); ends = w .ends }
 abbrev pub reached : Point → Float → Bool
 reached p M = p .mach ≼ M
 
--- past the last point it is set against none
+-- one query, from the last point passed and the current one on: it moves one on while the current point is at or below it, and ends at a higher one. Past the last
+-- point it is set against none.
 unfoldable pub leg : Option Point → List Point → Float → Went
 leg passed [] M = record { compared = 0; ends = record { passed = passed; ahead = [] } }
 leg passed (p ∷ ahead) M =

@@ -12,14 +12,14 @@ use Rattle.walk.proofs.leg.Tie as tie
 
 abbrev Inv-loop : tie.InvT-loop
 Inv-loop machs first count from mach passed₀ compared₀ passed compared =
-    (from ≤ passed) × (passed ≤ count) × (compared ≤ passed)
+    (passed ≤ count) × (compared ≤ passed)
     × ((drags : List Float) → went (standAt machs drags first count from) mach ≡ after compared (went (standAt machs drags first count passed) mach))
 
 abbrev μ-loop : tie.MeasureT-loop
 μ-loop machs first count from mach passed₀ compared₀ passed compared = count - passed
 
 loop-holds : tie.Need-loop-holds Inv-loop μ-loop
-loop-holds c = (omega arith, omega arith, omega arith, λ drags. after-none _)
+loop-holds c = (omega arith, omega arith, λ drags. after-none _)
 
 loop-again : tie.Need-loop-again Inv-loop μ-loop
 loop-again c =
@@ -27,21 +27,20 @@ loop-again c =
     let a = l .before .args in (
       omega arith,
       omega arith,
-      omega arith,
-      λ drags. l .loop .inv .3 drags ∙ moves (a .machs .now) drags (a .first) (a .count) (a .mach) (l .loop .compared) (l .loop .passed) (c .before .before .loop-test .taken) (c .if1 .taken),
+      λ drags. l .loop .inv .2 drags ∙ moves (a .machs .now) drags (a .first) (a .count) (a .mach) (l .loop .compared) (l .loop .passed) (c .before .before .loop-test .taken) (c .if1 .taken),
     )
 
 returns : tie.Need-returns Inv-loop μ-loop
 returns c =
     let l = c .before .before .before in
     let a = l .before .args in
-    record { onward = l .loop .inv .0; within = l .loop .inv .1; made = λ drags. l .loop .inv .3 drags ∙ stops (a .machs .now) drags (a .first) (a .count) (a .mach) (l .loop .compared) (l .loop .passed) (c .before .before .loop-test .taken) (c .if1 .left) }
+    record { within = l .loop .inv .0; made = λ drags. l .loop .inv .2 drags ∙ stops (a .machs .now) drags (a .first) (a .count) (a .mach) (l .loop .compared) (l .loop .passed) (c .before .before .loop-test .taken) (c .if1 .left) }
 
 returns-2 : tie.Need-returns-2 Inv-loop μ-loop
 returns-2 c =
     let l = c .before in
     let a = l .before .args in
-    record { onward = l .loop .inv .0; within = l .loop .inv .1; made = λ drags. l .loop .inv .3 drags ∙ ends-past (a .machs .now) drags (a .first) (a .count) (a .mach) (l .loop .compared) (l .loop .passed) (c .loop-test .left) }
+    record { within = l .loop .inv .0; made = λ drags. l .loop .inv .2 drags ∙ ends-past (a .machs .now) drags (a .first) (a .count) (a .mach) (l .loop .compared) (l .loop .passed) (c .loop-test .left) }
 
 pub leg-spec : {M : Type 1} → statement M
 leg-spec =

@@ -50,24 +50,28 @@ module _ (nose : StoneyNose) (Ms xs : List Float) (check : Check) (is : check �
         cells = rw (← is, passed) (cells ∙ ap (sets xs 0) (agree nose Ms (length xs) (sym is ∙ passed)) ∙ front (valuesOf nose Ms) (length Ms) xs (length-map Ms _) (room Ms (length xs) (sym is ∙ passed) .0));
       }
 
+-- what `check` is
+is-test : (c : tie.After-then) → let a = c .before .before .before .before .before .args in c .then .result ≡ flightTest (a .machs .now) (length (a .answers .now))
+is-test c = tested _ _ _ _ _ (c .before .before .check-given .ensures) (c .before .check-rising .ensures) (c .then .ensures)
+
 returns : tie.Need-returns
 returns c =
-    let a = c .before .before .before .before .before .before .before .before .args in
-    let is = tested (a .machs .now) (length (a .answers .now)) _ _ _ (c .before .before .before .before .before .check-given .ensures) (c .before .before .before .before .check-rising .ensures) (c .before .before .before .then .ensures) in
-    refused (a .nose) (a .machs .now) (a .answers .now) _ is _ _ (c .before .enum-told2 .given .1) (c .counted .ensures)
+    let t = c .before .before .before in
+    let a = t .before .before .before .before .before .args in
+    refused (a .nose) (a .machs .now) (a .answers .now) _ (is-test t) _ _ (c .before .enum-told2 .given .1) (c .counted .ensures)
 
 walk-table-requires : tie.Need-walk-table-requires
 walk-table-requires c κs =
-    let a = c .before .before .before .before .before .before .before .before .args in
-    let is = tested (a .machs .now) (length (a .answers .now)) _ _ _ (c .before .before .before .before .before .check-given .ensures) (c .before .before .before .before .check-rising .ensures) (c .before .before .before .then .ensures) in
-    room (a .machs .now) (length (a .answers .now)) (sym is ∙ c .before .enum-told .given .1)
+    let t = c .before .before .before in
+    let a = t .before .before .before .before .before .args in
+    room (a .machs .now) (length (a .answers .now)) (sym (is-test t) ∙ c .before .enum-told .given .1)
 
 returns-2 : tie.Need-returns-2
 returns-2 c =
-    let a = c .before .before .before .before .before .before .before .before .before .before .before .before .args in
-    let is = tested (a .machs .now) (length (a .answers .now)) _ _ _ (c .before .before .before .before .before .before .before .before .before .check-given .ensures) (c .before .before .before .before .before .before .before .before .check-rising .ensures) (c .before .before .before .before .before .before .before .then .ensures) in
+    let t = c .before .before .before .before .before .before .before in
+    let a = t .before .before .before .before .before .args in
     let walked = c .before .before .before .walk-table .ensures in
-    accepted (a .nose) (a .machs .now) (a .answers .now) _ is _ _ _ (c .before .before .before .before .before .enum-told .given .1) (c .counted2 .ensures) (walked .0) (walked .1)
+    accepted (a .nose) (a .machs .now) (a .answers .now) _ (is-test t) _ _ _ (c .before .before .before .before .before .enum-told .given .1) (c .counted2 .ensures) (walked .0) (walked .1)
 
 pub values-spec : {M : Type 1} → statement M
 values-spec =
