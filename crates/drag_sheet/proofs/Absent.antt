@@ -26,10 +26,12 @@ use Rattle.aero_error.specs.Checks.{required, dimension, _then_, unless, upTo}
 use Rattle.aero_error.specs.CheckLaws.{unless-passed}
 use Rattle.drag.specs.Friction.{machChecked, flowChecked}
 use Rattle.sheet_data.specs.declared.Settings.{Settings}
+use Rattle.sheet_data.specs.declared.PartRoughness.{PartRoughness}
+use Rattle.sheet_data.specs.declared.PartRoughness.the-variants.{OfSettings, Own}
 use Rattle.sheet_data.specs.declared.Part.{Part}
 use Rattle.sheet_data.specs.Layout.{most-parts, most-columns, needed}
 use Rattle.sheet_data.specs.Contents.{partAt}
-use Rattle.sheet_data.specs.Tests.{inInterval, bodyTest, columnsTest, settingsTest, partTest, partsTest}
+use Rattle.sheet_data.specs.Tests.{inInterval, ownTest, bodyTest, columnsTest, settingsTest, partTest, partsTest}
 use Rattle.drag_sheet.specs.Calls.{Call, replace, insert, remove, setColumn, argumentsTest}
 use Rattle.drag_sheet.proofs.Refusals.{then-failed, unless-failed}
 
@@ -83,8 +85,15 @@ module _ (n : ℕ) (low : 8 ≤ n) (high : n ≤ 9) where
       (other-then n (inInterval _ (s .«reference_diameter») _) _ (other-interval _ _ _) (other-then n (inInterval _ (s .roughness) _) _ (other-interval _ _ _) (other-required (dimension (s .«body_fineness») false) BodyFineness _)))
       (other-then n (columnsTest s) _ (other-up n (s .count) _ (λ k. other-flow _ _)) (other-unless n (ltb cells (needed (s .count))) TooFewCells (λ q. omega arith))))
 
+  other-own : (k : PartRoughness) → Other n (ownTest k)
+  other-own OfSettings = tt
+  other-own (Own x) = other-interval _ _ _
+
   pub other-part : (p : Part) → Other n (partTest p)
-  other-part p = other-then n (inInterval _ (p .length) _) _ (other-interval _ _ _) (other-then n (inInterval _ (p .«aft_diameter») _) _ (other-interval _ _ _) (other-interval _ _ _))
+  other-part p =
+      other-then n (inInterval _ (p .length) _) _ (other-interval _ _ _)
+      (other-then n (inInterval _ (p .«aft_diameter») _) _ (other-interval _ _ _)
+      (other-then n (inInterval _ (p .«wetted_ratio») _) _ (other-interval _ _ _) (other-own (p .roughness))))
 
   pub other-parts : (ps : List Part) → Other n (partsTest ps)
   unfolding partsTest

@@ -9,6 +9,8 @@ use lib.Ieee.{Float, nan}
 use Rattle.elementary.specs.Constants.{0·0}
 use Rattle.shapes.specs.declared.NoseShape.the-variants.{Conical}
 use Rattle.sheet_data.specs.declared.Settings.{Settings}
+use Rattle.sheet_data.specs.declared.PartRoughness.{PartRoughness}
+use Rattle.sheet_data.specs.declared.PartRoughness.the-variants.{OfSettings, Own}
 use Rattle.sheet_data.specs.declared.Part.{Part}
 use Rattle.sheet_data.specs.declared.Design.{Design}
 use Rattle.sheet_data.specs.declared.Sheet.{Sheet}
@@ -27,7 +29,7 @@ contentsOf sheet = record { settings = sheet .settings; parts = partsOf (sheet .
 
 -- what stands in a place that was never filled
 abbrev pub emptyPart : Part
-emptyPart = record { shape = Conical; length = 0·0; «aft_diameter» = 0·0; «joint_angle» = 0·0; «wetted_ratio» = 0·0 }
+emptyPart = record { shape = Conical; length = 0·0; «aft_diameter» = 0·0; «joint_angle» = 0·0; «wetted_ratio» = 0·0; roughness = OfSettings }
 
 -- a sheet with no parts
 abbrev pub blank : Settings → Sheet
@@ -35,7 +37,7 @@ blank s = record { settings = s; design = record { count = 0; parts = replicate 
 
 -- what a read past the last part would give; nothing looks there
 abbrev pub no-part : Part
-no-part = record { shape = Conical; length = nan; «aft_diameter» = nan; «joint_angle» = nan; «wetted_ratio» = nan }
+no-part = record { shape = Conical; length = nan; «aft_diameter» = nan; «joint_angle» = nan; «wetted_ratio» = nan; roughness = OfSettings }
 
 -- the part at a place
 abbrev pub partAt : List Part → ℕ → Part
@@ -48,6 +50,11 @@ part-taken n i ps h = getD-take n ps i _ h
 unfoldable pub foreAt : List Part → ℕ → Float
 foreAt ps zero = 0·0
 foreAt ps (suc i) = partAt ps i .«aft_diameter»
+
+-- a part's roughness under settings with roughness k: "absent, it is the settings' one"
+abbrev pub roughnessOf : PartRoughness → Float → Float
+roughnessOf OfSettings k = k
+roughnessOf (Own x) k = x
 
 -- a column's Mach and Reynolds number
 abbrev pub machAt : Settings → ℕ → Float

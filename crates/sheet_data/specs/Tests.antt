@@ -19,6 +19,8 @@ use Rattle.aero_error.specs.declared.Check.the-variants.{Passed, Failed}
 use Rattle.aero_error.specs.Checks.{_then_, unless, upTo, required, dimension}
 use Rattle.drag.specs.Friction.{flowChecked}
 use Rattle.sheet_data.specs.declared.Settings.{Settings}
+use Rattle.sheet_data.specs.declared.PartRoughness.{PartRoughness}
+use Rattle.sheet_data.specs.declared.PartRoughness.the-variants.{OfSettings, Own}
 use Rattle.sheet_data.specs.declared.Part.{Part}
 use Rattle.sheet_data.specs.Layout.{most-parts, most-columns, needed}
 use Rattle.sheet_data.specs.Contents.{partAt, machAt, reynoldsAt}
@@ -61,14 +63,20 @@ settingsTest s cells =
     then columnsTest s
     then unless (ltb cells (needed (s .count))) TooFewCells
 
--- "11 for L, d, w"
+-- a roughness of a part's own: "in [0, 1]"
+abbrev pub ownTest : PartRoughness → Check
+ownTest OfSettings = Passed
+ownTest (Own x) = inInterval 0·0 x 1·0
+
+-- "11 for L, d, w", and "checked after w" the roughness
 abbrev pub partTest : Part → Check
 partTest p =
     inInterval 0·0 (p .length) 100·0
     then inInterval 0·0 (p .«aft_diameter») 100·0
     then inInterval 0·0 (p .«wetted_ratio») 10000·0
+    then ownTest (p .roughness)
 
--- "11 for held L, d, w by place"
+-- "11 for held L, d, w by place", and the roughness after w
 unfoldable pub partsTest : List Part → Check
 partsTest ps = upTo (length ps) (λ i. partTest (partAt ps i))
 

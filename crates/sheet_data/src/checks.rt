@@ -4,9 +4,10 @@ ghost use mathlib.Core.Path.{_≡_};
 ghost use Prim.Native.Nat.{_≤_};
 ghost use Rattle.sheet_data.specs.Layout.{most-parts, most-columns};
 ghost use Rattle.sheet_data.specs.Contents.{partsOf};
-ghost use Rattle.sheet_data.specs.Tests.{inInterval, columnsTest, bodyTest, settingsTest, partTest, partsTest, sheetTest};
+ghost use Rattle.sheet_data.specs.Tests.{inInterval, ownTest, columnsTest, bodyTest, settingsTest, partTest, partsTest, sheetTest};
 use crate::Design;
 use crate::Part;
+use crate::PartRoughness;
 use crate::Settings;
 use crate::Sheet;
 use crate::layout::COLUMNS;
@@ -87,14 +88,28 @@ pub fn check_settings(settings: Settings, cells: usize) -> Check
     )
 }
 
+// A roughness of a part's own.
+fn check_own(roughness: PartRoughness) -> Check
+    ensures { λ r. ⌜ r ≡ ownTest roughness ⌝ }
+{
+    match roughness {
+        PartRoughness::OfSettings => Check::Passed,
+        PartRoughness::Own(x) => in_interval(0.0, x, MOST_ROUGHNESS),
+    }
+}
+
 pub fn check_part(part: Part) -> Check
     ensures { λ r. ⌜ r ≡ partTest part ⌝ }
 {
+    let roughness = part.roughness;
     then(
         in_interval(0.0, part.length, MOST_LENGTH),
         then(
             in_interval(0.0, part.aft_diameter, MOST_LENGTH),
-            in_interval(0.0, part.wetted_ratio, MOST_WETTED),
+            then(
+                in_interval(0.0, part.wetted_ratio, MOST_WETTED),
+                check_own(roughness),
+            ),
         ),
     )
 }

@@ -22,13 +22,20 @@ pub struct Settings {
     pub reynolds: [f64; COLUMNS],
 }
 
-// A part: its shape, length L, aft diameter d, joint angle and wetted ratio w.
+// The roughness of a part: the settings' one, or one of its own.
+pub enum PartRoughness {
+    OfSettings,
+    Own(f64),
+}
+
+// A part: its shape, length L, aft diameter d, joint angle, wetted ratio w and roughness.
 pub struct Part {
     pub shape: NoseShape,
     pub length: f64,
     pub aft_diameter: f64,
     pub joint_angle: f64,
     pub wetted_ratio: f64,
+    pub roughness: PartRoughness,
 }
 
 // `count` parts in places 0, 1, ..
@@ -54,6 +61,7 @@ impl Part {
             aft_diameter: 0.0,
             joint_angle: 0.0,
             wetted_ratio: 0.0,
+            roughness: PartRoughness::OfSettings,
         }
     }
 }
