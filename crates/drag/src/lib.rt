@@ -1,9 +1,12 @@
 // Skin friction, stagnation pressure, base drag, joint drag and the boattail rule (drag.rs): the terms of Niskanen's drag buildup
 // as functions of their inputs, with the Rust's names, order of tests and order of operations. Each answers the value or the refusal.
 ghost use mathlib.Core.Path.{_≡_};
-ghost use Rattle.drag.specs.Friction.{machChecked, machsTest, flowChecked, turbulentFriction, criticalReynolds, limitedFriction, wallOf, incompressible as incompressibleOf, incompressibleSkinFriction, compressible as compressibleOf, frictionOn, skinFrictionCoefficient, bodyFrictionFormFactor};
+ghost use mathlib.Core.Bool.{cond};
+ghost use Rattle.drag.specs.Friction.{machChecked, machsTest, flowChecked, turbulentFriction, criticalReynolds, limitedFriction, wallOf, onWall, incompressibleSkinFriction, frictionOn, skinFrictionCoefficient, bodyFrictionFormFactor};
 ghost use Rattle.drag.specs.Walls.{limitedFrom, wallAt};
+ghost use Rattle.drag.specs.Flows.{limitsAt, turbulentWhere, flowOf, frictionIn};
 ghost use Rattle.drag.specs.Pressure.{stagnationRatio, stagnationPressureRatio, stagnationDragCoefficient, baseDrag, baseDragCoefficient, jointPressureDragCoefficient, boattailShare, boattailFactor};
+use aero_error::AeroError;
 use aero_error::Check;
 use aero_error::Coefficient;
 use aero_error::Quantity;
@@ -64,6 +67,22 @@ pub fn check_flow(mach: f64, reynolds: f64) -> Check
 pub struct Wall {
     pub critical: Coefficient,
     pub limited: f64,
+}
+
+// What a Mach and a Reynolds number alone decide of the friction (eq. 3.82 to 3.84), below Mach 1 and from there on: the turbulent
+// friction, and the factor that corrects a limited one. Worked out once, it serves every wall.
+pub enum Flow {
+    Subsonic {
+        reynolds: f64,
+        turbulent: f64,
+        factor: f64,
+    },
+    Supersonic {
+        reynolds: f64,
+        turbulent: f64,
+        factor: f64,
+    },
+    Refused(AeroError),
 }
 
 // Smooth fully turbulent friction (eq. 3.78), held below LOW_REYNOLDS (eq. 3.81).
@@ -156,49 +175,100 @@ pub fn incompressible_skin_friction(reynolds: f64, relative_roughness: f64) -> C
     Coefficient::Value(turbulent_friction(reynolds))
 }
 
-// Eq. 3.81, once it is known whether the roughness limits.
-fn incompressible(limited: bool, rough: f64, reynolds: f64) -> f64
-    ensures { λ r. ⌜ r ≡ incompressibleOf limited rough reynolds ⌝ }
+// Whether the roughness of a wall limits the friction at a Reynolds number.
+pub fn limits(wall: Wall, reynolds: f64) -> bool
+    ensures { λ r. ⌜ r ≡ limitsAt wall reynolds ⌝ }
 {
-    if limited {
-        rough
-    } else {
+    if LOW_REYNOLDS <= reynolds {
+        let answer = wall.critical;
+        return match answer {
+            Coefficient::Value(critical) => reynolds >= critical,
+            Coefficient::Refused(_) => false,
+        };
+    }
+    false
+}
+
+// The turbulent friction where it is asked for, and otherwise 0, which nobody reads.
+fn turbulent_where(asked: bool, reynolds: f64) -> f64
+    ensures { λ r. ⌜ r ≡ turbulentWhere asked reynolds ⌝ }
+{
+    if asked {
         turbulent_friction(reynolds)
-    }
-}
-
-// The corrections for compressibility (eq. 3.82 to 3.84).
-fn compressible(limited: bool, rough: f64, reynolds: f64, mach: f64) -> f64
-    ensures { λ r. ⌜ r ≡ compressibleOf limited rough reynolds mach ⌝ }
-{
-    let m2 = mach * mach;
-    if mach < 1.0 {
-        return incompressible(limited, rough, reynolds) * (1.0 - 0.1 * m2);
-    }
-    let turbulent = turbulent_friction(reynolds) / elementary::powf(1.0 + 0.15 * m2, 0.58);
-    if limited {
-        max(rough / (1.0 + 0.18 * m2), turbulent)
     } else {
-        turbulent
+        0.0
     }
 }
 
-// Skin friction with compressibility on a wall.
-pub fn friction_on(wall: Wall, reynolds: f64, mach: f64) -> Coefficient
-    ensures { λ r. ⌜ r ≡ frictionOn wall reynolds mach ⌝ }
+// The flow at a Reynolds and a Mach number. Whether the turbulent friction is asked for below Mach 1 too is the caller's to say: where
+// the roughness limits it isn't read.
+pub fn flow_of(asked: bool, reynolds: f64, mach: f64) -> Flow
+    ensures { λ r. ⌜ r ≡ flowOf asked reynolds mach ⌝ }
 {
     if let Check::Failed(refusal) = check_flow(mach, reynolds) {
-        return Coefficient::Refused(refusal);
+        return Flow::Refused(refusal);
     }
+    let m2 = mach * mach;
+    if mach < 1.0 {
+        return Flow::Subsonic {
+            reynolds,
+            turbulent: turbulent_where(asked, reynolds),
+            factor: 1.0 - 0.1 * m2,
+        };
+    }
+    Flow::Supersonic {
+        reynolds,
+        turbulent: turbulent_friction(reynolds) / elementary::powf(1.0 + 0.15 * m2, 0.58),
+        factor: 1.0 + 0.18 * m2,
+    }
+}
+
+// One friction where the roughness of a wall limits, the other where it doesn't; a roughness refused is handed on.
+fn on_wall(wall: Wall, reynolds: f64, rough: f64, smooth: f64) -> Coefficient
+    ensures { λ r. ⌜ r ≡ onWall wall reynolds (λ limited x. cond limited rough smooth) ⌝ }
+{
     if LOW_REYNOLDS <= reynolds {
         let answer = wall.critical;
         let Coefficient::Value(critical) = answer else {
             return answer;
         };
-        let limited = reynolds >= critical;
-        return Coefficient::Value(compressible(limited, wall.limited, reynolds, mach));
+        if reynolds >= critical {
+            return Coefficient::Value(rough);
+        }
+        return Coefficient::Value(smooth);
     }
-    Coefficient::Value(compressible(false, wall.limited, reynolds, mach))
+    Coefficient::Value(smooth)
+}
+
+// Skin friction on a wall in a flow (eq. 3.82 to 3.84).
+pub fn friction_in(wall: Wall, flow: Flow) -> Coefficient
+    ensures { λ r. ⌜ r ≡ frictionIn wall flow ⌝ }
+{
+    match flow {
+        Flow::Refused(refusal) => Coefficient::Refused(refusal),
+        Flow::Subsonic {
+            reynolds,
+            turbulent,
+            factor,
+        } => on_wall(wall, reynolds, wall.limited * factor, turbulent * factor),
+        Flow::Supersonic {
+            reynolds,
+            turbulent,
+            factor,
+        } => on_wall(
+            wall,
+            reynolds,
+            max(wall.limited / factor, turbulent),
+            turbulent,
+        ),
+    }
+}
+
+// Skin friction with compressibility on a wall.
+fn friction_on(wall: Wall, reynolds: f64, mach: f64) -> Coefficient
+    ensures { λ r. ⌜ r ≡ frictionOn wall reynolds mach ⌝ }
+{
+    friction_in(wall, flow_of(!limits(wall, reynolds), reynolds, mach))
 }
 
 // Skin friction with compressibility (eq. 3.82 to 3.84).

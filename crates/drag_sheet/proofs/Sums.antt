@@ -1,5 +1,5 @@
 -- Sums from +0 by index.
-use mathlib.Core.Path.{_≡_, refl, ap, _∙_}
+use mathlib.Core.Path.{_≡_, refl, sym, ap, _∙_}
 use mathlib.Core.List.{List}
 use Prim.Native.Nat.{ℕ, zero, suc, _+_, _-_, _*_, _<_}
 use native.Mathlib.Numerals.{add-one}
@@ -25,10 +25,21 @@ unfolding sumTo
 sum-same zero f g h = refl
 sum-same (suc n) f g h = rw (sum-same n f g (λ i l. h i (omega arith)), h n (omega arith))
 
+-- a row added to a row of sums
+pub row-added : (C : ℕ) (sum out : List Float) (g x f : ℕ → Float) → sum ≡ tab C g → out ≡ tab (length sum) (λ k. getD sum k nan ⊕ x k) → ((k : ℕ) → k < C → x k ≡ f k)
+    → out ≡ tab C (λ k. g k ⊕ f k)
+row-added C sum out g x f s h same =
+    let l : length sum ≡ C = ap length s ∙ tab-long C g in
+    h ∙ rw l (tab-same C _ _ (λ k m. rw (s, tab-at C g nan k m, same k m)))
+
+-- one term more in each of a row of sums
+pub terms-more : (C n : ℕ) (f : ℕ → ℕ → Float) (sum out : List Float) (x : ℕ → Float) → sum ≡ tab C (λ k. sumTo n (f k)) → out ≡ tab (length sum) (λ k. getD sum k nan ⊕ x k)
+    → ((k : ℕ) → k < C → x k ≡ f k n) → out ≡ tab C (λ k. sumTo (n + 1) (f k))
+terms-more C n f sum out x s h same = row-added C sum out (λ k. sumTo n (f k)) x (λ k. f k n) s h same ∙ tab-same C _ _ (λ k l. sym (sum-more n (f k)))
+
 -- a row that is there added to a sum
 pub add-there : (C r at : ℕ) (xs sum out : List Float) (g : ℕ → Float) → at ≡ r * C → sum ≡ tab C g
     → out ≡ tab (length sum) (λ k. getD sum k nan ⊕ getD (take (at + C - at) (drop at xs)) k nan) → out ≡ tab C (λ k. g k ⊕ there C xs r k)
 add-there C r at xs sum out g e s h =
     let w : at + C - at ≡ C = omega arith in
-    let l : length sum ≡ C = ap length s ∙ tab-long C g in
-    h ∙ rw (l, w) (tab-same C _ _ (λ k m. rw (e, s, tab-at C g nan k m)))
+    row-added C sum out g (λ k. getD (take (at + C - at) (drop at xs)) k nan) (λ k. there C xs r k) s h (λ k m. rw (w, e))

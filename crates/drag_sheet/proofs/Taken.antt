@@ -11,7 +11,7 @@ use Rattle.aero_error.specs.declared.Check.{Check}
 use Rattle.aero_error.specs.Checks.{upTo}
 use Rattle.aero_error.specs.CheckLaws.{up-same}
 use Rattle.sheet_data.specs.declared.Settings.{Settings}
-use Rattle.sheet_data.specs.Contents.{machAt, reynoldsAt}
+use Rattle.sheet_data.specs.Contents.{machAt}
 use Rattle.sheet_data.specs.Tables.{tab, tab-same}
 use Rattle.drag_sheet.specs.declared.part.Row.{Row}
 use Rattle.drag_sheet.specs.declared.part.Prepared.the-variants.{Ready}
@@ -38,6 +38,5 @@ taken-row row s h f =
     (rw n (tab-same (s .count) _ _ (λ i l. ap (λ M. valueOf (cellOf row M)) (getD-take (s .count) (s .machs) i nan l))))
     f
 
-pub taken-cells : (f : Float → Float → Float) (s : Settings)
-    → tab (s .count) (λ k. f (getD (take (s .count) (s .machs)) k nan) (getD (take (s .count) (s .reynolds)) k nan)) ≡ tab (s .count) (λ k. f (machAt s k) (reynoldsAt s k))
-taken-cells f s = tab-same (s .count) _ _ (λ i l. rw (getD-take (s .count) (s .machs) i nan l, getD-take (s .count) (s .reynolds) i nan l))
+pub taken-cells : (f : Float → Float) (s : Settings) → tab (s .count) (λ k. f (getD (take (s .count) (s .machs)) k nan)) ≡ tab (s .count) (λ k. f (machAt s k))
+taken-cells f s = tab-same (s .count) _ _ (λ i l. ap f (getD-take (s .count) (s .machs) i nan l))

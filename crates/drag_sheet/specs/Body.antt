@@ -1,34 +1,65 @@
--- The rows of the whole body with all that a sheet decides of them worked out once for all columns: `friction-same` and `base-same` show that their cells are
--- the formulas'.
-use mathlib.Core.Path.{_≡_, refl, ap}
-use lib.ListN.{length}
-use lib.Ieee.{Float}
+-- The rows of the whole body as the code works them out: the base with its share of the reference area, and the friction with what each column and each roughness
+-- decides worked out once.
+use mathlib.Core.Path.{_≡_}
+use mathlib.Core.Bool.{Bool, true, false, not, _||_}
+use mathlib.Core.List.{List}
+use Prim.Native.Nat.{ℕ, zero, suc, _<_}
+use lib.ListN.{length, getD}
+use lib.Ieee.{Float, nan}
 use Rattle.elementary.specs.Arithmetic.{_⊗_, _⊘_}
-use Rattle.aero_error.specs.declared.Coefficient.{Coefficient}
-use Rattle.drag.specs.Friction.{bodyFrictionFormFactor, wallOf, frictionOn, on-wall}
+use Rattle.drag.specs.declared.Wall.{Wall}
+use Rattle.drag.specs.declared.Flow.{Flow}
+use Rattle.drag.specs.declared.Flow.the-variants.{Subsonic}
+use Rattle.drag.specs.Friction.{wallOf}
+use Rattle.drag.specs.Flows.{limitsAt, flowOf, frictionIn}
 use Rattle.drag.specs.Pressure.{baseDragCoefficient}
-use Rattle.sheet_data.specs.Contents.{Contents, foreAt}
-use Rattle.drag_sheet.specs.declared.body.BodyRow.{BodyRow}
-use Rattle.drag_sheet.specs.declared.body.BodyRow.the-variants.{Friction, Base}
-use Rattle.drag_sheet.specs.Formulas.{valueOf, wetted, frictionCell, baseCell}
+use Rattle.sheet_data.specs.declared.Settings.{Settings}
+use Rattle.sheet_data.specs.declared.PartRoughness.{PartRoughness}
+use Rattle.sheet_data.specs.declared.PartRoughness.the-variants.{OfSettings, Own}
+use Rattle.sheet_data.specs.declared.Part.{Part}
+use Rattle.sheet_data.specs.Layout.{most-columns}
+use Rattle.sheet_data.specs.Contents.{Contents, partAt, foreAt, machAt, reynoldsAt}
+use Rattle.drag_sheet.specs.Formulas.{valueOf}
 
-abbrev pub bodyCell : BodyRow → Float → Float → Float
-bodyCell (Friction wall form wet) M R = valueOf (frictionOn wall R M) ⊗ form ⊗ wet
-bodyCell (Base area) M R = valueOf (baseDragCoefficient M) ⊗ area
+-- ---- the base
 
-abbrev pub bodyFriction : Contents → BodyRow
-bodyFriction c = Friction (wallOf (c .settings .roughness)) (valueOf (bodyFrictionFormFactor (c .settings .«body_fineness»))) (wetted (c .parts))
+-- a base cell from the share of the reference area
+abbrev pub baseOver : Float → Float → Float
+baseOver area M = valueOf (baseDragCoefficient M) ⊗ area
 
-abbrev pub bodyBase : Contents → BodyRow
-bodyBase c =
+abbrev pub baseArea : Contents → Float
+baseArea c =
     let last = foreAt (c .parts) (length (c .parts)) in
     let D = c .settings .«reference_diameter» in
-    Base (last ⊗ last ⊘ (D ⊗ D))
+    last ⊗ last ⊘ (D ⊗ D)
 
-pub friction-same : (c : Contents) (M R : Float) → bodyCell (bodyFriction c) M R ≡ frictionCell c M R
-unfolding frictionCell
-friction-same c M R = ap (λ (x : Coefficient). valueOf x ⊗ valueOf (bodyFrictionFormFactor (c .settings .«body_fineness»)) ⊗ wetted (c .parts)) (on-wall (c .settings .roughness) R M)
+-- ---- the friction
 
-pub base-same : (c : Contents) (M R : Float) → bodyCell (bodyBase c) M R ≡ baseCell c M
-unfolding baseCell
-base-same c M R = refl
+-- whether a roughness is a part's own, and whether any of the first n parts has one
+abbrev pub isOwn : PartRoughness → Bool
+isOwn OfSettings = false
+isOwn (Own x) = true
+
+unfoldable pub anyOwn : ℕ → List Part → Bool
+anyOwn zero ps = false
+anyOwn (suc n) ps = anyOwn n ps || isOwn (partAt ps n .roughness)
+
+-- what a read past the last column would give; nothing looks there
+abbrev pub no-flow : Flow
+no-flow = Subsonic nan nan nan
+
+abbrev pub flowAt : List Flow → ℕ → Flow
+flowAt flows k = getD flows k no-flow
+
+-- the flow of each column, for frictions on this wall or, where `own` says so, on any
+pub record Flows (s : Settings) (wall : Wall) (own : Bool) (flows : List Flow) : Type 0 where
+  pub long : length flows ≡ most-columns
+  pub at : (k : ℕ) → k < s .count → flowAt flows k ≡ flowOf (own || not (limitsAt wall (reynoldsAt s k))) (reynoldsAt s k) (machAt s k)
+
+-- friction × form factor, on a wall, and for a part of this roughness, `common` being that of the settings' roughness
+abbrev pub formed : Wall → Float → Flow → Float
+formed wall form flow = valueOf (frictionIn wall flow) ⊗ form
+
+abbrev pub formedFor : PartRoughness → Float → Float → Flow → Float
+formedFor OfSettings common form flow = common
+formedFor (Own x) common form flow = formed (wallOf x) form flow

@@ -1,7 +1,6 @@
 -- The formulas of docs/REFERENCE.md, Rows, for the cells of a sheet, in their own order of operations. f is a part's fore diameter, the previous part's aft diameter d;
 -- D is the reference diameter, M a Mach number, R a Reynolds number.
 use mathlib.Core.Bool.{cond}
-use mathlib.Core.List.{List}
 use Prim.Native.Nat.{ℕ, zero, suc}
 use lib.ListN.{length}
 use lib.Ieee.{Float}
@@ -17,6 +16,9 @@ use Rattle.drag.specs.Pressure.{baseDragCoefficient, boattailFactor}
 use Rattle.nose_drag.specs.declared.builder.Curve.{Curve}
 use Rattle.nose_drag.specs.declared.builder.Curve.the-variants.{Built, Refused as NotBuilt}
 use Rattle.nose_drag.specs.Curves.{newCurve, coefficientOf}
+use Rattle.sheet_data.specs.declared.Settings.{Settings}
+use Rattle.sheet_data.specs.declared.PartRoughness.{PartRoughness}
+use Rattle.sheet_data.specs.declared.PartRoughness.the-variants.{OfSettings, Own}
 use Rattle.sheet_data.specs.declared.Part.{Part}
 use Rattle.sheet_data.specs.Contents.{Contents, partAt, foreAt}
 use Rattle.drag_sheet.specs.declared.part.Row.{Row}
@@ -83,15 +85,19 @@ unfoldable pub sumTo : ℕ → (ℕ → Float) → Float
 sumTo zero f = 0·0
 sumTo (suc n) f = sumTo n f ⊕ f n
 
--- "the sum of w from +0 by place"
-abbrev pub wetted : List Part → Float
-wetted ps = sumTo (length ps) (λ i. partAt ps i .«wetted_ratio»)
+-- a part's roughness, k being the settings': "absent, it is the settings' one"
+abbrev pub roughnessOf : PartRoughness → Float → Float
+roughnessOf OfSettings k = k
+roughnessOf (Own x) k = x
 
--- "(skin friction × form factor) × the sum of w"
+-- "(skin friction at that part's roughness × form factor) × w"
+abbrev pub partFriction : Settings → Part → Float → Float → Float
+partFriction s p M R =
+    valueOf (skinFrictionCoefficient R (roughnessOf (p .roughness) (s .roughness)) M) ⊗ valueOf (bodyFrictionFormFactor (s .«body_fineness»)) ⊗ p .«wetted_ratio»
+
+-- "a sum by place from +0"
 unfoldable pub frictionCell : Contents → Float → Float → Float
-frictionCell c M R =
-    let s = c .settings in
-    valueOf (skinFrictionCoefficient R (s .roughness) M) ⊗ valueOf (bodyFrictionFormFactor (s .«body_fineness»)) ⊗ wetted (c .parts)
+frictionCell c M R = sumTo (length (c .parts)) (λ i. partFriction (c .settings) (partAt (c .parts) i) M R)
 
 -- "base drag at M × ((last d × last d)/(D×D)), last d being 0 without parts"
 unfoldable pub baseCell : Contents → Float → Float

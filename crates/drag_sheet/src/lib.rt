@@ -12,6 +12,7 @@ ghost use Rattle.drag_sheet.specs.Edits.{RowAsked, Rewritten, NextWritte
 
 mod body;
 mod edits;
+mod friction;
 mod part;
 mod rows;
 

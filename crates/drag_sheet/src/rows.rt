@@ -5,20 +5,18 @@ ghost use lib.ListN.{length, getD, replicate};
 ghost use lib.Ieee.{nan};
 ghost use Rattle.elementary.specs.Arithmetic.{_⊕_};
 ghost use Rattle.elementary.specs.Constants.{0·0};
-ghost use Rattle.sheet_data.specs.Layout.{most-parts, most-columns, finishes as finishCount, friction-row, total-row, all-rows, needed, RowPlace};
-ghost use Rattle.sheet_data.specs.Contents.{contentsOf, Fits, machAt, reynoldsAt};
+ghost use Rattle.sheet_data.specs.Layout.{most-parts, most-columns, finishes as finishCount, friction-row, base-row, total-row, all-rows, needed, RowPlace};
+ghost use Rattle.sheet_data.specs.Contents.{contentsOf, Fits};
 ghost use Rattle.sheet_data.specs.Tables.{tab};
 ghost use Rattle.sheet_data.specs.Rows.{from, written, rowsWritten};
 ghost use Rattle.drag_sheet.specs.Formulas.{sumTo};
-ghost use Rattle.drag_sheet.specs.Body.{bodyCell};
 ghost use Rattle.drag_sheet.specs.Build.{rowOf, trial, build};
 ghost use Rattle.drag_sheet.specs.Writing.{there, totalThere, totalled, columnPut, Filled, AllWritten};
 ghost use Rattle.drag_sheet.specs.Calls.{bodyRows};
 use crate::body;
-use crate::body::BodyRow;
+use crate::friction;
 use crate::part;
 use aero_error::Check;
-use sheet_data::Settings;
 use sheet_data::Sheet;
 use sheet_data::layout::CELLS;
 use sheet_data::layout::COLUMNS;
@@ -56,23 +54,6 @@ pub(crate) fn write_row(at: usize, row: &[f64], cells: &mut [f64])
 {
     let end = at + row.len();
     copy_row(row, &mut cells[at..end]);
-}
-
-// Writes a whole body's row into the cells from `at` on.
-fn write_body_row(row: BodyRow, settings: Settings, at: usize, cells: &mut [f64])
-    requires { ⌜ (settings .count ≤ most-columns) × (at + settings .count ≤ length (now cells)) ⌝ }
-    ensures { λ _. ⌜ now (cells .exit) ≡ written at (tab (settings .count) (λ k. bodyCell row (machAt settings k) (reynoldsAt settings k))) (now (cells .entry)) ⌝ }
-{
-    let count = settings.count;
-    let machs = settings.machs;
-    let reynolds = settings.reynolds;
-    let end = at + count;
-    body::fill_body_row(
-        row,
-        &machs[..count],
-        &reynolds[..count],
-        &mut cells[at..end],
-    );
 }
 
 // Adds a row to a sum, column by column.
@@ -135,17 +116,40 @@ fn write_totals(count: usize, cells: &mut [f64])
     }
 }
 
+// Writes the friction row of a finish.
+fn write_friction(sheet: Sheet, finish: usize, cells: &mut [f64])
+    requires { ⌜ Fits sheet (length (now cells)) × (finish < finishCount) ⌝ }
+    ensures { λ _. ⌜ now (cells .exit) ≡ written (friction-row finish * sheet .settings .count) (rowOf (contentsOf sheet) (friction-row finish)) (now (cells .entry)) ⌝ }
+{
+    let mut sum = [0.0; COLUMNS];
+    let count = sheet.settings.count;
+    let at = offset(friction_row() + finish, count);
+    friction::sum_parts(sheet, &mut sum[..count]);
+    write_row(at, &sum[..count], cells);
+}
+
 // Writes the friction rows.
 fn write_frictions(sheet: Sheet, cells: &mut [f64])
     requires { ⌜ Fits sheet (length (now cells)) ⌝ }
     ensures { λ _. ⌜ now (cells .exit) ≡ rowsWritten (sheet .settings .count) (rowOf (contentsOf sheet)) (from (friction-row 0) finishCount) (now (cells .entry)) ⌝ }
 {
+    for finish in 0usize..finishes() {
+        write_friction(sheet, finish, cells);
+    }
+}
+
+// Writes the base row.
+fn write_base(sheet: Sheet, cells: &mut [f64])
+    requires { ⌜ Fits sheet (length (now cells)) ⌝ }
+    ensures { λ _. ⌜ now (cells .exit) ≡ written (base-row finishCount * sheet .settings .count) (rowOf (contentsOf sheet) (base-row finishCount)) (now (cells .entry)) ⌝ }
+{
     let settings = sheet.settings;
     let count = settings.count;
-    for finish in 0usize..finishes() {
-        let at = offset(friction_row() + finish, count);
-        write_body_row(body::friction(sheet), settings, at, cells);
-    }
+    let machs = settings.machs;
+    let area = body::base_area(sheet);
+    let at = offset(base_row(), count);
+    let end = at + count;
+    body::fill_base(area, &machs[..count], &mut cells[at..end]);
 }
 
 // Writes the friction, base and total rows anew.
@@ -153,11 +157,9 @@ pub(crate) fn write_body(sheet: Sheet, cells: &mut [f64])
     requires { ⌜ Fits sheet (length (now cells)) ⌝ }
     ensures { λ _. ⌜ now (cells .exit) ≡ totalled (sheet .settings .count) (rowsWritten (sheet .settings .count) (rowOf (contentsOf sheet)) bodyRows (now (cells .entry))) ⌝ }
 {
-    let settings = sheet.settings;
-    let count = settings.count;
+    let count = sheet.settings.count;
     write_frictions(sheet, cells);
-    let at = offset(base_row(), count);
-    write_body_row(body::base(sheet), settings, at, cells);
+    write_base(sheet, cells);
     write_totals(count, cells);
 }
 

@@ -9,8 +9,7 @@ use lib.Ieee.{Float, nan}
 use Rattle.elementary.specs.Constants.{0·0}
 use Rattle.shapes.specs.declared.NoseShape.the-variants.{Conical}
 use Rattle.sheet_data.specs.declared.Settings.{Settings}
-use Rattle.sheet_data.specs.declared.PartRoughness.{PartRoughness}
-use Rattle.sheet_data.specs.declared.PartRoughness.the-variants.{OfSettings, Own}
+use Rattle.sheet_data.specs.declared.PartRoughness.the-variants.{OfSettings}
 use Rattle.sheet_data.specs.declared.Part.{Part}
 use Rattle.sheet_data.specs.declared.Design.{Design}
 use Rattle.sheet_data.specs.declared.Sheet.{Sheet}
@@ -50,11 +49,6 @@ part-taken n i ps h = getD-take n ps i _ h
 unfoldable pub foreAt : List Part → ℕ → Float
 foreAt ps zero = 0·0
 foreAt ps (suc i) = partAt ps i .«aft_diameter»
-
--- a part's roughness under settings with roughness k: "absent, it is the settings' one"
-abbrev pub roughnessOf : PartRoughness → Float → Float
-roughnessOf OfSettings k = k
-roughnessOf (Own x) k = x
 
 -- a column's Mach and Reynolds number
 abbrev pub machAt : Settings → ℕ → Float

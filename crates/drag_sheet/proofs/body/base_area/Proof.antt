@@ -1,4 +1,4 @@
--- `base` meets its contract.
+-- `base_area` meets its contract.
 use mathlib.Core.Path.{_≡_}
 use lib.ListN.{length, length-map}
 use lib.Seq.{length-take-le}
@@ -6,8 +6,8 @@ use native.Mathlib.Omega.{arith}
 use Rattle.sheet_data.specs.Contents.{partsOf}
 use Rattle.drag_sheet.proofs.RowKinds.{fore-taken}
 use borrow.Author.Needs.{needs}
-use Rattle.drag_sheet.proofs.body.base.Statement.{statement}
-use Rattle.drag_sheet.proofs.body.base.Tie as tie
+use Rattle.drag_sheet.proofs.body.base_area.Statement.{statement}
+use Rattle.drag_sheet.proofs.body.base_area.Tie as tie
 
 returns : tie.Need-returns
 returns c =
@@ -16,5 +16,5 @@ returns c =
     let n : length (partsOf d) ≡ d .count = length-take-le (d .count) (d .parts) (omega (arith, simp length-map at (s .good .0 .1 .1 .1 .0 .1 .1 .1 .0 .1 .0 .1))) in
     rw (c .fore-diameter .ensures, n, fore-taken (d .count) (d .count) (d .parts) (omega arith))
 
-pub base-spec : {M : Type 1} → statement M
-base-spec = tie.close (tie.spec (λ c κs. search needs) returns)
+pub base-area-spec : {M : Type 1} → statement M
+base-area-spec = tie.close (tie.spec (λ c κs. search needs) returns)

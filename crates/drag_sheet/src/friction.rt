@@ -1,0 +1,147 @@
+// The friction row: what a roughness decides is worked out once for the row, what a Mach and a Reynolds number decide once for the column,
+// and the parts' frictions are added by place.
+ghost use mathlib.Core.Path.{_≡_};
+ghost use Prim.Native.Nat.{_≤_};
+ghost use lib.ListN.{length, getD, replicate};
+ghost use lib.Ieee.{nan};
+ghost use Rattle.elementary.specs.Arithmetic.{_⊕_, _⊗_};
+ghost use Rattle.elementary.specs.Constants.{0·0};
+ghost use Rattle.drag.specs.Friction.{wallOf};
+ghost use Rattle.sheet_data.specs.Layout.{most-parts, most-columns};
+ghost use Rattle.sheet_data.specs.Contents.{contentsOf, partAt, machAt, reynoldsAt};
+ghost use Rattle.sheet_data.specs.Tables.{tab};
+ghost use Rattle.drag_sheet.specs.Formulas.{sumTo, frictionCell};
+ghost use Rattle.drag_sheet.specs.Body.{isOwn, anyOwn, flowAt, Flows, formed, formedFor};
+use crate::body::value_of;
+use drag::Flow;
+use drag::Wall;
+use sheet_data::Design;
+use sheet_data::PartRoughness;
+use sheet_data::Settings;
+use sheet_data::Sheet;
+use sheet_data::layout::COLUMNS;
+
+fn is_own(roughness: PartRoughness) -> bool
+    ensures { λ r. ⌜ r ≡ isOwn roughness ⌝ }
+{
+    match roughness {
+        PartRoughness::OfSettings => false,
+        PartRoughness::Own(_) => true,
+    }
+}
+
+// Whether any part has a roughness of its own.
+fn any_own(design: Design) -> bool
+    requires { ⌜ design .count ≤ most-parts ⌝ }
+    ensures { λ r. ⌜ r ≡ anyOwn (design .count) (design .parts) ⌝ }
+{
+    let count = design.count;
+    let parts = design.parts;
+    let mut own = false;
+    let mut place = 0usize;
+    while place < count {
+        let part = parts[place];
+        let roughness = part.roughness;
+        own = own | is_own(roughness);
+        place += 1;
+    }
+    own
+}
+
+// The flow of each column. Where no friction is asked for but on this wall, and its roughness limits, the turbulent one isn't worked out.
+fn flows_of(settings: Settings, wall: Wall, own: bool) -> [Flow; COLUMNS]
+    requires { ⌜ settings .count ≤ most-columns ⌝ }
+    ensures { λ r. ⌜ Flows settings wall own r ⌝ }
+{
+    let count = settings.count;
+    let machs = settings.machs;
+    let reynolds = settings.reynolds;
+    let still = Flow::Subsonic {
+        reynolds: 0.0,
+        turbulent: 0.0,
+        factor: 0.0,
+    };
+    let mut flows = [still; COLUMNS];
+    let mut i = 0usize;
+    while i < count {
+        let asked = own | !drag::limits(wall, reynolds[i]);
+        flows[i] = drag::flow_of(asked, reynolds[i], machs[i]);
+        i += 1;
+    }
+    flows
+}
+
+// Friction times form factor on a wall, column by column.
+fn fill_on(wall: Wall, form: f64, flows: [Flow; COLUMNS], out: &mut [f64])
+    requires { ⌜ length (now out) ≤ most-columns ⌝ }
+    ensures { λ _. ⌜ now (out .exit) ≡ tab (length (now (out .entry))) (λ k. formed wall form (flowAt flows k)) ⌝ }
+{
+    let mut i = 0usize;
+    while i < out.len() {
+        let flow = flows[i];
+        out[i] = value_of(drag::friction_in(wall, flow)) * form;
+        i += 1;
+    }
+}
+
+// Adds a part's friction, column by column: `formed` is friction times form factor.
+fn add_part(formed: &[f64], wetted_ratio: f64, sum: &mut [f64])
+    requires { ⌜ length (now formed) ≡ length (now sum) ⌝ }
+    ensures { λ _. ⌜ now (sum .exit) ≡ tab (length (now (sum .entry))) (λ k. getD (now (sum .entry)) k nan ⊕ getD (now (formed .entry)) k nan ⊗ «wetted_ratio») ⌝ }
+{
+    let mut i = 0usize;
+    while i < sum.len() {
+        sum[i] = sum[i] + formed[i] * wetted_ratio;
+        i += 1;
+    }
+}
+
+// Adds the friction of a part with a roughness of its own.
+fn add_own(roughness: f64, form: f64, flows: [Flow; COLUMNS], wetted_ratio: f64, sum: &mut [f64])
+    requires { ⌜ length (now sum) ≤ most-columns ⌝ }
+    ensures { λ _. ⌜ now (sum .exit) ≡ tab (length (now (sum .entry))) (λ k. getD (now (sum .entry)) k nan ⊕ formed (wallOf roughness) form (flowAt flows k) ⊗ «wetted_ratio») ⌝ }
+{
+    let wall = drag::wall_of(roughness);
+    let mut i = 0usize;
+    while i < sum.len() {
+        let flow = flows[i];
+        sum[i] = sum[i] + value_of(drag::friction_in(wall, flow)) * form * wetted_ratio;
+        i += 1;
+    }
+}
+
+// Adds the parts' frictions by place to `sum`, which holds +0; `common` is friction times form factor at the settings' roughness.
+fn add_by_place(design: Design, common: &[f64], form: f64, flows: [Flow; COLUMNS], sum: &mut [f64])
+    requires { ⌜ (design .count ≤ most-parts) × (length (now common) ≤ most-columns) × (now sum ≡ replicate (length (now common)) 0·0) ⌝ }
+    ensures { λ _. ⌜ now (sum .exit) ≡ tab (length (now (common .entry))) (λ k. sumTo (design .count) (λ i. formedFor (partAt (design .parts) i .roughness) (getD (now (common .entry)) k nan) form (flowAt flows k) ⊗ partAt (design .parts) i .«wetted_ratio»)) ⌝ }
+{
+    let count = design.count;
+    let parts = design.parts;
+    let mut place = 0usize;
+    while place < count {
+        let part = parts[place];
+        let wetted_ratio = part.wetted_ratio;
+        let roughness = part.roughness;
+        match roughness {
+            PartRoughness::OfSettings => add_part(common, wetted_ratio, sum),
+            PartRoughness::Own(k) => add_own(k, form, flows, wetted_ratio, sum),
+        }
+        place += 1;
+    }
+}
+
+// The friction row, added up in `sum`, which holds +0.
+pub(crate) fn sum_parts(sheet: Sheet, sum: &mut [f64])
+    requires { ⌜ (sheet .settings .count ≤ most-columns) × (sheet .design .count ≤ most-parts) × (now sum ≡ replicate (sheet .settings .count) 0·0) ⌝ }
+    ensures { λ _. ⌜ now (sum .exit) ≡ tab (sheet .settings .count) (λ k. frictionCell (contentsOf sheet) (machAt (sheet .settings) k) (reynoldsAt (sheet .settings) k)) ⌝ }
+{
+    let settings = sheet.settings;
+    let design = sheet.design;
+    let count = settings.count;
+    let form = value_of(drag::body_friction_form_factor(settings.body_fineness));
+    let wall = drag::wall_of(settings.roughness);
+    let flows = flows_of(settings, wall, any_own(design));
+    let mut common = [0.0; COLUMNS];
+    fill_on(wall, form, flows, &mut common[..count]);
+    add_by_place(design, &common[..count], form, flows, sum);
+}
