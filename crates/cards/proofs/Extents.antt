@@ -20,13 +20,14 @@ use Rattle.aero_error.specs.declared.Check.the-variants.{Passed}
 use Rattle.shapes.specs.declared.NoseShape.{NoseShape}
 use Rattle.shapes.specs.Numbers.{shapeOf}
 use Rattle.sheet_data.specs.declared.Part.{Part}
+use Rattle.sheet_data.specs.declared.PartRoughness.the-variants.{OfSettings}
 use Rattle.sheet_data.specs.Layout.{most-columns}
-use Rattle.cards.specs.declared.ByteRead.{ByteRead}
-use Rattle.cards.specs.declared.ByteRead.the-variants.{Byte, Refused as NoByte}
-use Rattle.cards.specs.declared.NumberRead.{NumberRead}
-use Rattle.cards.specs.declared.NumberRead.the-variants.{Number, Refused as NoNumber}
-use Rattle.cards.specs.declared.PairRead.{PairRead}
-use Rattle.cards.specs.declared.PairRead.the-variants.{Pair, Refused as NoPair}
+use Rattle.cards.specs.declared.fields.ByteRead.{ByteRead}
+use Rattle.cards.specs.declared.fields.ByteRead.the-variants.{Byte, Refused as NoByte}
+use Rattle.cards.specs.declared.fields.NumberRead.{NumberRead}
+use Rattle.cards.specs.declared.fields.NumberRead.the-variants.{Number, Refused as NoNumber}
+use Rattle.cards.specs.declared.fields.PairRead.{PairRead}
+use Rattle.cards.specs.declared.fields.PairRead.the-variants.{Pair, Refused as NoPair}
 use Rattle.cards.specs.declared.ShapeRead.{ShapeRead}
 use Rattle.cards.specs.declared.ShapeRead.the-variants.{Shape, Refused as NoShape}
 use Rattle.cards.specs.declared.PartRead.{PartRead}
@@ -278,7 +279,7 @@ shape-extent map =
 rest-extent : (shape : NoseShape) (map : ℕ) → Extent parts 0 (2 * pair-bytes) (restAt shape map)
 unfolding restAt
 rest-extent shape map =
-    let made : Float → Float → Float → Float → Part = λ L d angle w. record { shape = shape; length = L; «aft_diameter» = d; «joint_angle» = angle; «wetted_ratio» = w } in
+    let made : Float → Float → Float → Float → Part = λ L d angle w. record { shape = shape; length = L; «aft_diameter» = d; «joint_angle» = angle; «wetted_ratio» = w; roughness = OfSettings } in
     on-pair (λ L d s at. onPair (pairAt (bit 4 map) (bit 5 map) s at) NoPart (λ angle w last. Read (made L d angle w) last)) (pair-extent (bit 2 map) (bit 3 map)) λ L d.
     on-pair (λ angle w s at. Read (made L d angle w) at) (pair-extent (bit 4 map) (bit 5 map)) λ angle w.
     absent parts 0 (Read (made L d angle w)) (λ at n e. e)

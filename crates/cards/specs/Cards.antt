@@ -16,6 +16,7 @@ use Rattle.aero_error.specs.Told.{Told, toldOf}
 use Rattle.shapes.specs.declared.NoseShape.{NoseShape}
 use Rattle.shapes.specs.Numbers.{shapeOf}
 use Rattle.aero_error.specs.declared.Check.the-variants.{Passed, Failed}
+use Rattle.sheet_data.specs.declared.PartRoughness.the-variants.{OfSettings}
 use Rattle.sheet_data.specs.Layout.{most-columns}
 use Rattle.cards.specs.declared.ShapeRead.{ShapeRead}
 use Rattle.cards.specs.declared.ShapeRead.the-variants.{Shape, Refused as NoShape}
@@ -54,7 +55,7 @@ unfolding pairAt
 restAt shape map s at =
     onPair (pairAt (bit 2 map) (bit 3 map) s at) NoPart λ L d next.
     onPair (pairAt (bit 4 map) (bit 5 map) s next) NoPart λ angle w last.
-    Read (record { shape = shape; length = L; «aft_diameter» = d; «joint_angle» = angle; «wetted_ratio» = w }) last
+    Read (record { shape = shape; length = L; «aft_diameter» = d; «joint_angle» = angle; «wetted_ratio» = w; roughness = OfSettings }) last
 
 abbrev pub onShape : ShapeRead → (NoseShape → ℕ → PartRead) → PartRead
 onShape (Shape shape next) go = go shape next

@@ -11,12 +11,12 @@ use Rattle.elementary.specs.Constants.{0·0}
 use Rattle.aero_error.specs.declared.AeroError.{AeroError}
 use Rattle.aero_error.specs.declared.AeroError.the-variants.{Broken}
 use Rattle.aero_error.specs.declared.Rule.the-variants.{CardEnds}
-use Rattle.cards.specs.declared.ByteRead.{ByteRead}
-use Rattle.cards.specs.declared.ByteRead.the-variants.{Byte, Refused as NoByte}
-use Rattle.cards.specs.declared.NumberRead.{NumberRead}
-use Rattle.cards.specs.declared.NumberRead.the-variants.{Number, Refused as NoNumber}
-use Rattle.cards.specs.declared.PairRead.{PairRead}
-use Rattle.cards.specs.declared.PairRead.the-variants.{Pair, Refused as NoPair}
+use Rattle.cards.specs.declared.fields.ByteRead.{ByteRead}
+use Rattle.cards.specs.declared.fields.ByteRead.the-variants.{Byte, Refused as NoByte}
+use Rattle.cards.specs.declared.fields.NumberRead.{NumberRead}
+use Rattle.cards.specs.declared.fields.NumberRead.the-variants.{Number, Refused as NoNumber}
+use Rattle.cards.specs.declared.fields.PairRead.{PairRead}
+use Rattle.cards.specs.declared.fields.PairRead.the-variants.{Pair, Refused as NoPair}
 
 -- the bytes of a float, and of a column's two, M and R
 abbrev pub number-bytes : ℕ

@@ -1,4 +1,4 @@
--- `cards::has` meets its contract: the test `at + n ≤ length s`, made without a sum that could wrap.
+-- `cards::fields::has` meets its contract: the test `at + n ≤ length s`, made without a sum that could wrap.
 use Prim.Native.Nat.{_+_, _<_, _≤_}
 use lib.ListN.{length}
 use native.Mathlib.Omega.{arith}
@@ -6,8 +6,8 @@ use mathlib.Core.Path.{sym}
 use borrow.Author.Tests.{lt-leb}
 use Rattle.cards.proofs.Tests.{leb-move}
 use borrow.Author.Needs.{needs}
-use Rattle.cards.proofs.has.Statement.{statement}
-use Rattle.cards.proofs.has.Tie as tie
+use Rattle.cards.proofs.fields.has.Statement.{statement}
+use Rattle.cards.proofs.fields.has.Tie as tie
 
 returns : tie.Need-returns
 returns c =

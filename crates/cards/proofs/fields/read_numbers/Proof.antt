@@ -1,4 +1,4 @@
--- `cards::read_numbers` meets its contract: after i turns the first i slots hold their numbers.
+-- `cards::fields::read_numbers` meets its contract: after i turns the first i slots hold their numbers.
 use mathlib.Core.Path.{_≡_, refl, ap, _∙_}
 use mathlib.Core.List.{List}
 use Prim.Native.Nat.{ℕ, _-_, _≤_}
@@ -8,8 +8,8 @@ use lib.Ieee.{Float}
 use Rattle.cards.specs.Fields.{numbersAt}
 use Rattle.cards.specs.Cards.{slots}
 use Rattle.cards.proofs.Numbers.{slot-filled}
-use Rattle.cards.proofs.read_numbers.Statement.{statement}
-use Rattle.cards.proofs.read_numbers.Tie as tie
+use Rattle.cards.proofs.fields.read_numbers.Statement.{statement}
+use Rattle.cards.proofs.fields.read_numbers.Tie as tie
 
 abbrev Inv-loop : tie.InvT-loop
 Inv-loop n s at out₀ i₀ out i = (i ≤ n) × (out ≡ slots i (numbersAt i s at))

@@ -1,8 +1,8 @@
--- `cards::read_pair` meets its contract.
+-- `cards::fields::read_pair` meets its contract.
 use Rattle.cards.specs.Fields.{pairAt}
 use borrow.Author.Needs.{needs}
-use Rattle.cards.proofs.read_pair.Statement.{statement}
-use Rattle.cards.proofs.read_pair.Tie as tie
+use Rattle.cards.proofs.fields.read_pair.Statement.{statement}
+use Rattle.cards.proofs.fields.read_pair.Tie as tie
 
 pub read-pair-spec : {M : Type 1} → statement M
 unfolding pairAt

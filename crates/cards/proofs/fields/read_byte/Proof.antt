@@ -1,12 +1,12 @@
--- `cards::read_byte` meets its contract.
+-- `cards::fields::read_byte` meets its contract.
 use Prim.Native.Nat.{_+_, _≤_}
 use lib.ListN.{length}
 use native.Mathlib.Omega.{arith}
 use mathlib.Core.Path.{sym, _∙_}
 use borrow.Author.Tests.{leb-true}
 use borrow.Author.Needs.{needs}
-use Rattle.cards.proofs.read_byte.Statement.{statement}
-use Rattle.cards.proofs.read_byte.Tie as tie
+use Rattle.cards.proofs.fields.read_byte.Statement.{statement}
+use Rattle.cards.proofs.fields.read_byte.Tie as tie
 
 -- the byte is there
 there : (c : tie.Then2) → let a = c .before .before .before .before .args in a .at + 1 ≤ length (a .s .now)

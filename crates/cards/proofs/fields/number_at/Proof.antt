@@ -1,8 +1,8 @@
--- `cards::number_at` meets its contract.
+-- `cards::fields::number_at` meets its contract.
 use Rattle.cards.specs.Fields.{eightBytes}
 use borrow.Author.Needs.{needs}
-use Rattle.cards.proofs.number_at.Statement.{statement}
-use Rattle.cards.proofs.number_at.Tie as tie
+use Rattle.cards.proofs.fields.number_at.Statement.{statement}
+use Rattle.cards.proofs.fields.number_at.Tie as tie
 
 pub number-at-spec : {M : Type 1} → statement M
 unfolding eightBytes

@@ -1,8 +1,8 @@
--- `cards::four_bytes` meets its contract: each byte is below 256, so the sum fits.
+-- `cards::fields::four_bytes` meets its contract: each byte is below 256, so the sum fits.
 use native.Mathlib.Omega.{arith}
 use borrow.Author.Needs.{needs}
-use Rattle.cards.proofs.four_bytes.Statement.{statement}
-use Rattle.cards.proofs.four_bytes.Tie as tie
+use Rattle.cards.proofs.fields.four_bytes.Statement.{statement}
+use Rattle.cards.proofs.fields.four_bytes.Tie as tie
 
 pub four-bytes-spec : {M : Type 1} → statement M
 four-bytes-spec =

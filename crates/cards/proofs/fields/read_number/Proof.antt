@@ -1,4 +1,4 @@
--- `cards::read_number` meets its contract.
+-- `cards::fields::read_number` meets its contract.
 use Prim.Native.Nat.{_+_, _≤_}
 use lib.ListN.{length}
 use native.Mathlib.Omega.{arith}
@@ -6,8 +6,8 @@ use mathlib.Core.Path.{sym, _∙_}
 use borrow.Author.Tests.{leb-true}
 use Rattle.cards.specs.Fields.{number-bytes}
 use borrow.Author.Needs.{needs}
-use Rattle.cards.proofs.read_number.Statement.{statement}
-use Rattle.cards.proofs.read_number.Tie as tie
+use Rattle.cards.proofs.fields.read_number.Statement.{statement}
+use Rattle.cards.proofs.fields.read_number.Tie as tie
 
 -- the bytes are there
 there : (c : tie.Then2) → let a = c .before .before .before .before .args in a .at + number-bytes ≤ length (a .s .now)
