@@ -3,7 +3,7 @@
 -- bytes add up.
 use mathlib.Core.Path.{_≡_, refl, sym, ap, _∙_}
 use mathlib.Core.Bool.{Bool, true, false, cond, not}
-use mathlib.Core.List.{List}
+use mathlib.Core.List.{List, []}
 use Prim.Native.Nat.{ℕ, zero, suc, _+_, _*_, _≤_, _<_, min}
 use native.Mathlib.Omega.{arith}
 use lib.ListN.{length, getD, take, length-take}
@@ -20,7 +20,8 @@ use Rattle.aero_error.specs.declared.Check.the-variants.{Passed}
 use Rattle.shapes.specs.declared.NoseShape.{NoseShape}
 use Rattle.shapes.specs.Numbers.{shapeOf}
 use Rattle.sheet_data.specs.declared.Part.{Part}
-use Rattle.sheet_data.specs.declared.PartRoughness.the-variants.{OfSettings}
+use Rattle.sheet_data.specs.declared.PartRoughness.{PartRoughness}
+use Rattle.sheet_data.specs.declared.PartRoughness.the-variants.{Own}
 use Rattle.sheet_data.specs.Layout.{most-columns}
 use Rattle.cards.specs.declared.fields.ByteRead.{ByteRead}
 use Rattle.cards.specs.declared.fields.ByteRead.the-variants.{Byte, Refused as NoByte}
@@ -30,11 +31,13 @@ use Rattle.cards.specs.declared.fields.PairRead.{PairRead}
 use Rattle.cards.specs.declared.fields.PairRead.the-variants.{Pair, Refused as NoPair}
 use Rattle.cards.specs.declared.ShapeRead.{ShapeRead}
 use Rattle.cards.specs.declared.ShapeRead.the-variants.{Shape, Refused as NoShape}
+use Rattle.cards.specs.declared.RoughnessRead.{RoughnessRead}
+use Rattle.cards.specs.declared.RoughnessRead.the-variants.{Roughness, Refused as NoRoughness}
 use Rattle.cards.specs.declared.PartRead.{PartRead}
 use Rattle.cards.specs.declared.PartRead.the-variants.{Read, Refused as NoPart}
 use Rattle.cards.specs.declared.SettingsRead.{SettingsRead}
 use Rattle.cards.specs.Fields.{number-bytes, pair-bytes, bit, has, fourBytes, eightBytes, byteAt, numberAt, pairAt, numbersAt, onByte, onNumber, onPair}
-use Rattle.cards.specs.Cards.{parameterRight, parameterAt, shapeAt, restAt, onShape, partFields, partAt, noSettings, slots, columnsAt, finenessAt, settingsFields, settingsAt, settings-bytes, part-bytes}
+use Rattle.cards.specs.Cards.{parameterRight, parameterAt, shapeAt, roughnessAt, onRoughness, lastAt, restAt, onShape, partFields, partAt, noSettings, slots, columnsAt, finenessAt, settingsFields, settingsAt, settings-bytes, part-bytes}
 
 -- what a reader answers ends at n
 abbrev byteEnds : ByteRead → ℕ → Type 0
@@ -52,6 +55,10 @@ pairEnds (NoPair e) n = ⊥
 abbrev shapeEnds : ShapeRead → ℕ → Type 0
 shapeEnds (Shape shape m) n = m ≡ n
 shapeEnds (NoShape e) n = ⊥
+
+abbrev roughnessEnds : RoughnessRead → ℕ → Type 0
+roughnessEnds (Roughness k m) n = m ≡ n
+roughnessEnds (NoRoughness e) n = ⊥
 
 abbrev pub partEnds : PartRead → ℕ → Type 0
 partEnds (Read part m) n = m ≡ n
@@ -81,6 +88,9 @@ pairs = record { ends = pairEnds; refuse = NoPair; never = λ e n i. i }
 
 abbrev shapes : Kind ShapeRead
 shapes = record { ends = shapeEnds; refuse = NoShape; never = λ e n i. i }
+
+abbrev roughnesses : Kind RoughnessRead
+roughnesses = record { ends = roughnessEnds; refuse = NoRoughness; never = λ e n i. i }
 
 abbrev pub parts : Kind PartRead
 parts = record { ends = partEnds; refuse = NoPart; never = λ e n i. i }
@@ -276,21 +286,36 @@ shape-extent map =
     on-byte (λ n s at. cond (ltb 5 n) (NoShape (Broken ReservedBit)) (parameterAt (bit 1 map) n s at)) (byte-extent (bit 0 map)) λ n.
     refused-if (ltb 5 n) (Broken ReservedBit) (parameter-extent (bit 1 map) n)
 
-rest-extent : (shape : NoseShape) (map : ℕ) → Extent parts 0 (2 * pair-bytes) (restAt shape map)
-unfolding restAt
-rest-extent shape map =
-    let made : Float → Float → Float → Float → Part = λ L d angle w. record { shape = shape; length = L; «aft_diameter» = d; «joint_angle» = angle; «wetted_ratio» = w; roughness = OfSettings } in
-    on-pair (λ L d s at. onPair (pairAt (bit 4 map) (bit 5 map) s at) NoPart (λ angle w last. Read (made L d angle w) last)) (pair-extent (bit 2 map) (bit 3 map)) λ L d.
-    on-pair (λ angle w s at. Read (made L d angle w) at) (pair-extent (bit 4 map) (bit 5 map)) λ angle w.
-    absent parts 0 (Read (made L d angle w)) (λ at n e. e)
+roughness-extent : (present : Bool) → Extent roughnesses 0 number-bytes (roughnessAt present)
+roughness-extent false = absent roughnesses number-bytes (roughnessAt false []) (λ at n e. e)
+roughness-extent true =
+    on-number (λ x s at. Roughness (Own x) at) (number-extent true) λ x.
+    absent roughnesses 0 (Roughness (Own x)) (λ at n e. e)
 
-fields-extent : (map : ℕ) → Extent parts 0 (1 + 5 * number-bytes) (partFields map)
+last-extent : (shape : NoseShape) (L d : Float) (map : ℕ) → Extent parts 0 (3 * number-bytes) (lastAt shape L d map)
+unfolding lastAt
+last-extent shape L d map =
+    on-pair (λ angle w s at. onRoughness (roughnessAt (bit 6 map) s at) (λ k last. Read (made angle w k) last)) (pair-extent (bit 4 map) (bit 5 map)) λ angle w.
+    followed (λ r s. onRoughness r (λ k last. Read (made angle w k) last)) (roughness-extent (bit 6 map)) (by-cases angle w) (λ s. refl)
+  where
+    made : Float → Float → PartRoughness → Part
+    made angle w k = record { shape = shape; length = L; «aft_diameter» = d; «joint_angle» = angle; «wetted_ratio» = w; roughness = k }
+
+    by-cases : (angle w : Float) (r : RoughnessRead) → Goes parts 0 0 (roughnessEnds r) (λ s. onRoughness r (λ k last. Read (made angle w k) last))
+    by-cases angle w (Roughness k m) = goes m (λ s at. Read (made angle w k) at) (absent parts 0 (Read (made angle w k)) (λ at n e. e))
+    by-cases angle w (NoRoughness e) = ended e
+
+rest-extent : (shape : NoseShape) (map : ℕ) → Extent parts 0 (5 * number-bytes) (restAt shape map)
+unfolding restAt
+rest-extent shape map = on-pair (λ L d. lastAt shape L d map) (pair-extent (bit 2 map) (bit 3 map)) (λ L d. last-extent shape L d map)
+
+fields-extent : (map : ℕ) → Extent parts 0 (1 + 6 * number-bytes) (partFields map)
 unfolding partFields
 fields-extent map =
-    refused-if (ltb 63 map) (Broken ReservedBit)
+    refused-if (ltb 127 map) (Broken ReservedBit)
     (followed (λ r s. onShape r (λ shape next. restAt shape map s next)) (shape-extent map) by-cases (λ s. refl))
   where
-    by-cases : (r : ShapeRead) → Goes parts 0 (2 * pair-bytes) (shapeEnds r) (λ s. onShape r (λ shape next. restAt shape map s next))
+    by-cases : (r : ShapeRead) → Goes parts 0 (5 * number-bytes) (shapeEnds r) (λ s. onShape r (λ shape next. restAt shape map s next))
     by-cases (Shape shape m) = goes m (restAt shape map) (rest-extent shape map)
     by-cases (NoShape e) = ended e
 

@@ -16,16 +16,19 @@ use Rattle.aero_error.specs.Told.{Told, toldOf}
 use Rattle.shapes.specs.declared.NoseShape.{NoseShape}
 use Rattle.shapes.specs.Numbers.{shapeOf}
 use Rattle.aero_error.specs.declared.Check.the-variants.{Passed, Failed}
-use Rattle.sheet_data.specs.declared.PartRoughness.the-variants.{OfSettings}
+use Rattle.sheet_data.specs.declared.PartRoughness.{PartRoughness}
+use Rattle.sheet_data.specs.declared.PartRoughness.the-variants.{OfSettings, Own}
 use Rattle.sheet_data.specs.Layout.{most-columns}
 use Rattle.cards.specs.declared.ShapeRead.{ShapeRead}
 use Rattle.cards.specs.declared.ShapeRead.the-variants.{Shape, Refused as NoShape}
+use Rattle.cards.specs.declared.RoughnessRead.{RoughnessRead}
+use Rattle.cards.specs.declared.RoughnessRead.the-variants.{Roughness, Refused as NoRoughness}
 use Rattle.cards.specs.declared.PartRead.{PartRead}
 use Rattle.cards.specs.declared.PartRead.the-variants.{Read, Refused as NoPart}
 use Rattle.cards.specs.declared.SettingsRead.{SettingsRead}
 use Rattle.cards.specs.Fields.{number-bytes, pair-bytes, bit, has, byteAt, numberAt, pairAt, numbersAt, onByte, onNumber, onPair}
 
--- ---- part cards: bit 0 shape byte, 1 shape parameter, 2 L, 3 d, 4 joint angle, 5 w
+-- ---- part cards: bit 0 shape byte, 1 shape parameter, 2 L, 3 d, 4 joint angle, 5 w, 6 roughness
 
 -- "the parameter stands for shapes 1, 3, 4, 5 and no others"
 abbrev pub takesParameter : ℕ → Bool
@@ -49,22 +52,38 @@ shapeAt map s at =
     onByte (byteAt (bit 0 map) s at) NoShape λ n next.
     cond (ltb 5 n) (NoShape (Broken ReservedBit)) (parameterAt (bit 1 map) n s next)
 
--- L, d, joint angle and w
-unfoldable pub restAt : NoseShape → ℕ → List ℕ → ℕ → PartRead
+-- "A part gets its own roughness, card bit 6 .. absent, it is the settings' one": kept as absent, not as a number
+abbrev pub roughnessAt : Bool → List ℕ → ℕ → RoughnessRead
+roughnessAt false s at = Roughness OfSettings at
+roughnessAt true s at = onNumber (numberAt true s at) NoRoughness λ x next. Roughness (Own x) next
+
+abbrev pub onRoughness : RoughnessRead → (PartRoughness → ℕ → PartRead) → PartRead
+onRoughness (Roughness k next) go = go k next
+onRoughness (NoRoughness e) go = NoPart e
+
+-- joint angle, w and roughness, once shape, L and d are read
+unfoldable pub lastAt : NoseShape → Float → Float → ℕ → List ℕ → ℕ → PartRead
 unfolding pairAt
+lastAt shape L d map s at =
+    onPair (pairAt (bit 4 map) (bit 5 map) s at) NoPart λ angle w next.
+    onRoughness (roughnessAt (bit 6 map) s next) λ k last.
+    Read (record { shape = shape; length = L; «aft_diameter» = d; «joint_angle» = angle; «wetted_ratio» = w; roughness = k }) last
+
+-- L and d, then the last fields
+unfoldable pub restAt : NoseShape → ℕ → List ℕ → ℕ → PartRead
+unfolding lastAt
 restAt shape map s at =
     onPair (pairAt (bit 2 map) (bit 3 map) s at) NoPart λ L d next.
-    onPair (pairAt (bit 4 map) (bit 5 map) s next) NoPart λ angle w last.
-    Read (record { shape = shape; length = L; «aft_diameter» = d; «joint_angle» = angle; «wetted_ratio» = w; roughness = OfSettings }) last
+    lastAt shape L d map s next
 
 abbrev pub onShape : ShapeRead → (NoseShape → ℕ → PartRead) → PartRead
 onShape (Shape shape next) go = go shape next
 onShape (NoShape e) go = NoPart e
 
--- a part card whose bit map is read: a bit above 5 is reserved
+-- a part card whose bit map is read: "Only a part's bit 7 is then reserved"
 unfoldable pub partFields : ℕ → List ℕ → ℕ → PartRead
 unfolding shapeAt restAt
-partFields map s at = cond (ltb 63 map) (NoPart (Broken ReservedBit)) (onShape (shapeAt map s at) λ shape next. restAt shape map s next)
+partFields map s at = cond (ltb 127 map) (NoPart (Broken ReservedBit)) (onShape (shapeAt map s at) λ shape next. restAt shape map s next)
 
 unfoldable pub partAt : List ℕ → ℕ → PartRead
 unfolding partFields
@@ -144,6 +163,6 @@ settingsAt s at = onByte (byteAt true s at) noSettings λ map next. settingsFiel
 abbrev pub settings-bytes : ℕ
 settings-bytes = 1 + 3 * number-bytes + 1 + most-columns * pair-bytes
 
--- bit map, shape, parameter, L, d, joint angle and w
+-- bit map, shape, parameter, L, d, joint angle, w and roughness
 abbrev pub part-bytes : ℕ
-part-bytes = 1 + 1 + 5 * number-bytes
+part-bytes = 1 + 1 + 6 * number-bytes

@@ -1,7 +1,7 @@
 // Cards (docs/REFERENCE.md, Cards): the bytes of a settings card and of a part card, read from a
 // position of lent bytes. Each function answers what its definition gives, whatever the bytes are.
 ghost use mathlib.Core.Path.{_≡_};
-ghost use Rattle.cards.specs.Cards.{takesParameter, parameterRight, parameterAt, shapeAt, restAt, partFields, partAt, noSettings, columnsAt, finenessAt, settingsFields, settingsAt};
+ghost use Rattle.cards.specs.Cards.{takesParameter, parameterRight, parameterAt, shapeAt, roughnessAt, lastAt, restAt, partFields, partAt, noSettings, columnsAt, finenessAt, settingsFields, settingsAt};
 
 mod fields;
 
@@ -28,12 +28,18 @@ use sheet_data::layout::COLUMNS;
 // The most bytes of a settings card: bit map, D, the roughness, B, the count and the columns.
 pub const SETTINGS_BYTES: usize = 1 + 3 * NUMBER_BYTES + 1 + COLUMNS * PAIR_BYTES;
 
-// The most bytes of a part card: bit map, shape, parameter, L, d, joint angle and w.
-pub const PART_BYTES: usize = 1 + 1 + 5 * NUMBER_BYTES;
+// The most bytes of a part card: bit map, shape, parameter, L, d, joint angle, w and roughness.
+pub const PART_BYTES: usize = 1 + 1 + 6 * NUMBER_BYTES;
 
 // The shape of a part, with the position after its byte and its parameter.
 pub enum ShapeRead {
     Shape { shape: NoseShape, next: usize },
+    Refused(AeroError),
+}
+
+// The roughness of a part, with the position after it.
+pub enum RoughnessRead {
+    Roughness { value: PartRoughness, next: usize },
     Refused(AeroError),
 }
 
@@ -108,7 +114,63 @@ fn read_shape(map: u8, s: &[u8], at: usize) -> ShapeRead
     }
 }
 
-// L, d, joint angle and w.
+// The roughness of a part; the settings' one where it is not present.
+fn read_roughness(present: bool, s: &[u8], at: usize) -> RoughnessRead
+    ensures { λ r. ⌜ r ≡ roughnessAt present (now (s .entry)) at ⌝ }
+{
+    if present {
+        return match read_number(true, s, at) {
+            NumberRead::Refused(e) => RoughnessRead::Refused(e),
+            NumberRead::Number { value, next } => RoughnessRead::Roughness {
+                value: PartRoughness::Own(value),
+                next,
+            },
+        };
+    }
+    RoughnessRead::Roughness {
+        value: PartRoughness::OfSettings,
+        next: at,
+    }
+}
+
+// Joint angle, w and roughness, and with them the part.
+fn read_last(
+    shape: NoseShape,
+    length: f64,
+    aft_diameter: f64,
+    map: u8,
+    s: &[u8],
+    at: usize,
+) -> PartRead
+    ensures { λ r. ⌜ r ≡ lastAt shape length «aft_diameter» map (now (s .entry)) at ⌝ }
+{
+    match read_pair(map / 16 % 2 == 1, map / 32 % 2 == 1, s, at) {
+        PairRead::Refused(e) => PartRead::Refused(e),
+        PairRead::Pair {
+            first: joint_angle,
+            second: wetted_ratio,
+            next,
+        } => match read_roughness(map / 64 % 2 == 1, s, next) {
+            RoughnessRead::Refused(e) => PartRead::Refused(e),
+            RoughnessRead::Roughness {
+                value: roughness,
+                next: last,
+            } => PartRead::Read {
+                part: Part {
+                    shape,
+                    length,
+                    aft_diameter,
+                    joint_angle,
+                    wetted_ratio,
+                    roughness,
+                },
+                next: last,
+            },
+        },
+    }
+}
+
+// L and d, then the last fields.
 fn read_rest(shape: NoseShape, map: u8, s: &[u8], at: usize) -> PartRead
     ensures { λ r. ⌜ r ≡ restAt shape map (now (s .entry)) at ⌝ }
 {
@@ -118,24 +180,7 @@ fn read_rest(shape: NoseShape, map: u8, s: &[u8], at: usize) -> PartRead
             first: length,
             second: aft_diameter,
             next,
-        } => match read_pair(map / 16 % 2 == 1, map / 32 % 2 == 1, s, next) {
-            PairRead::Refused(e) => PartRead::Refused(e),
-            PairRead::Pair {
-                first: joint_angle,
-                second: wetted_ratio,
-                next: last,
-            } => PartRead::Read {
-                part: Part {
-                    shape,
-                    length,
-                    aft_diameter,
-                    joint_angle,
-                    wetted_ratio,
-                    roughness: PartRoughness::OfSettings,
-                },
-                next: last,
-            },
-        },
+        } => read_last(shape, length, aft_diameter, map, s, next),
     }
 }
 
@@ -143,7 +188,7 @@ fn read_rest(shape: NoseShape, map: u8, s: &[u8], at: usize) -> PartRead
 fn read_part_fields(map: u8, s: &[u8], at: usize) -> PartRead
     ensures { λ r. ⌜ r ≡ partFields map (now (s .entry)) at ⌝ }
 {
-    if 63 < map {
+    if 127 < map {
         return PartRead::Refused(AeroError::Broken(Rule::ReservedBit));
     }
     match read_shape(map, s, at) {

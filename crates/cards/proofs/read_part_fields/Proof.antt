@@ -1,4 +1,5 @@
 -- `cards::read_part_fields` meets its contract.
+use native.Mathlib.Omega.{arith}
 use borrow.Author.Tests.{lt-ltb, le-ltb}
 use Rattle.cards.specs.Cards.{partFields}
 use borrow.Author.Needs.{needs}
@@ -10,7 +11,7 @@ unfolding partFields
 read-part-fields-spec =
     tie.close
     (tie.spec
-    (λ c. simp (lt-ltb _ _ (c .if1 .taken)))
+    (λ c. simp (lt-ltb 127 (c .before .before .args .map) (omega arith)))
     (λ c κs. search needs) (λ c. search needs) (λ c. search needs) (λ c κs. search needs)
-    (λ c. simp (le-ltb _ _ (c .before .before .before .before .if1 .left), ← c .before .before .before .read-shape .ensures, c .before .e .given .1))
-    (λ c. simp (le-ltb _ _ (c .before .before .before .before .before .if1 .left), ← c .before .before .before .before .read-shape .ensures, c .before .before .shape .given .1) (c .read-rest .ensures)))
+    (λ c. let b = c .before .before .before in simp (le-ltb 127 (b .before .before .before .args .map) (omega arith), ← b .read-shape .ensures, c .before .e .given .1))
+    (λ c. let b = c .before .before .before .before in simp (le-ltb 127 (b .before .before .before .args .map) (omega arith), ← b .read-shape .ensures, c .before .before .shape .given .1) (c .read-rest .ensures)))

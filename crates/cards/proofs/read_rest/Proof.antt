@@ -9,8 +9,6 @@ unfolding restAt
 read-rest-spec =
     tie.close
     (tie.spec
-    (λ c κs. search needs) (λ c. search needs) (λ c. search needs) (λ c κs. search needs) (λ c. search needs)
-    (λ c. search needs)
+    (λ c κs. search needs) (λ c. search needs) (λ c. search needs) (λ c κs. search needs)
     (λ c. simp (← c .before .before .before .read-pair .ensures, c .before .e .given .1))
-    (λ c. let b = c .before .before .before .before .before in simp (← b .before .before .read-pair .ensures, b .length .given .1, ← c .before .before .before .read-pair2 .ensures, c .before .e2 .given .1))
-    (λ c. let b = c .before .before .before .before .before in simp (← b .before .before .read-pair .ensures, b .length .given .1, ← c .before .before .before .read-pair2 .ensures, c .before .joint-angle .given .1)))
+    (λ c. simp (← c .before .before .before .before .read-pair .ensures, c .before .before .length .given .1) (c .read-last .ensures)))
