@@ -13,6 +13,7 @@ NAN = float("nan")
 INF = float("inf")
 THIRD = 1.0 / 3.0
 ABOVE_THIRD = struct.unpack("<d", struct.pack("<Q", struct.unpack("<Q", struct.pack("<d", THIRD))[0] + 1))[0]
+ABOVE_ONE = struct.unpack("<d", bytes.fromhex("010000000000f03f"))[0]
 HALF_PI = struct.unpack("<d", bytes.fromhex("182d4454fb21f93f"))[0]
 ABOVE_HALF_PI = struct.unpack("<d", bytes.fromhex("192d4454fb21f93f"))[0]
 
@@ -30,10 +31,10 @@ def settings(d=1.0, b=1.0, columns=None, roughness=None):
     return bytes([bits]) + body
 
 
-def part(shape=None, x=None, length=None, d=None, angle=None, w=None):
+def part(shape=None, x=None, length=None, d=None, angle=None, w=None, roughness=None):
     """A part card with the fields that are given."""
     bits, body = 0, b""
-    for k, value in enumerate([shape, x, length, d, angle, w]):
+    for k, value in enumerate([shape, x, length, d, angle, w, roughness]):
         if value is not None:
             bits |= 1 << k
             body += bytes([value]) if k == 0 else f64(value)
@@ -88,7 +89,8 @@ add(BARE + part(d=1.0) + part(1, 1.0, 1.0)[:-1], refused(4, 2))
 add(b"\x10", refused(5, 0))
 add(b"\xff", refused(5, 0))
 add(b"\x80" + f64(1.0, 1.0), refused(5, 0))
-add(ONE + b"\x40", refused(5, 1))
+add(ONE + b"\x80", refused(5, 1))
+add(ONE + b"\xc0" + f64(0.5), refused(5, 1))
 add(BARE + part(d=1.0) + b"\x81\x09", refused(5, 2))
 add(BARE + part(6), refused(5, 1))
 add(BARE + part(255, 1.0), refused(5, 1))
@@ -131,11 +133,34 @@ add(settings(columns=[(0.1 * k, 1e6) for k in range(32)]) + SIXTEEN, (16, 32))
 add(BARE + SIXTEEN + part(d=1.0), refused(9, 17))
 add(ONE + SIXTEEN + part(length=101.0), refused(9, 17))
 add(BARE + SIXTEEN + b"\x08", refused(4, 17))
-add(BARE + SIXTEEN + b"\x40", refused(5, 17))
+add(BARE + SIXTEEN + b"\x40", refused(4, 17))
+add(BARE + SIXTEEN + b"\x80", refused(5, 17))
 add(BARE + SIXTEEN + b"\x02", refused(6, 17))
 add(BARE + SIXTEEN + part() + bytes(range(256)), refused(9, 17))
-# a stream cut after every byte of a stack of two parts: whole only at a card's end
-cards = [settings(roughness=1e-5, columns=[(0.5, 1e6)]), STACK[0], STACK[1]]
+# a part's own roughness: on the nose alone, at both ends of its interval, -0 and in between; alone in its card; on a part that narrows
+for k in [0.0, -0.0, 1.0, 5e-6]:
+    add(CLUB + part(1, 1.0, 0.3, 0.066, 0.0, 12.0, k) + STACK[1], (2, 5))
+add(ONE + b"\x40" + f64(2e-5), (1, 1))
+add(ONE + part(d=1.0) + part(length=1.0, d=0.5, w=1.0, roughness=0.5), (2, 1))
+# cut before its first byte and before its last
+add(ONE + b"\x40", refused(4, 1))
+add(ONE + b"\x40" + f64(2e-5)[:-1], refused(4, 1))
+# outside its interval, after a w that is too; before the part's curve, and after a 17th part
+for k in [1.5, -1.0, NAN, ABOVE_ONE, -5e-324]:
+    add(ONE + part(roughness=k), refused(11, 1))
+add(CLUB + STACK[0] + part(0, None, 0.8, 0.066, None, 48.0, 1.5), refused(11, 2))
+add(ONE + part(w=-1.0, roughness=1.5), refused(11, 1))
+add(ONE + part(1, 0.9, 1.0, 1.0, roughness=1.5), refused(11, 1))
+add(BARE + SIXTEEN + part(roughness=1.5), refused(9, 17))
+# the longest cards: 32 columns, 16 parts with every field and 16 roughnesses, a 17th, and the 17th cut before its last byte
+LONGEST = settings(roughness=1e-5, columns=[(0.1 * k, 1e6) for k in range(32)])
+LONGEST += b"".join(part(1, 1.0, 0.5, 0.1 * (k + 1), 0.0, 1.0, 1e-6 * (k + 1)) for k in range(16))
+SEVENTEENTH = part(1, 1.0, 0.5, 1.7, 0.0, 1.0, 1e-6)
+add(LONGEST, (16, 32))
+add(LONGEST + SEVENTEENTH, refused(9, 17))
+add(LONGEST + SEVENTEENTH[:-1], refused(4, 17))
+# a stream cut after every byte of a stack of two parts, the first with its own roughness: whole only at a card's end
+cards = [settings(roughness=1e-5, columns=[(0.5, 1e6)]), part(1, 1.0, 0.3, 0.066, 0.0, 12.0, 5e-6), STACK[1]]
 whole = b"".join(cards)
 ends = [len(b"".join(cards[: k + 1])) for k in range(len(cards))]
 for cut in range(1, len(whole) + 1):
