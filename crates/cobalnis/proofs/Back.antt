@@ -5,7 +5,7 @@ use mathlib.Core.List.{List, [], _∷_, _++_, append-assoc, append-nil}
 use Prim.Native.Nat.{ℕ, _-_}
 use native.Mathlib.Omega.{arith}
 use lib.Dec.{T}
-use lib.ListN.{length, getD, drop, length-append}
+use lib.ListN.{length, getD, drop, replicate, length-append}
 use lib.Seq.{drop-at, drop-drop, getD-at}
 use lib.Ieee.{Float, binary64, fits, toBits}
 use lib.Ieee.Bits.{ofBits-toBits}
@@ -13,10 +13,13 @@ use Rattle.shapes.specs.declared.NoseShape.{NoseShape}
 use Rattle.shapes.specs.declared.NoseShape.the-variants.{Conical, Ogive, Elliptical, PowerSeries, ParabolicSeries, Haack}
 use Rattle.shapes.specs.Numbers.{numberOfShape, shapeOf, parameterOf}
 use Rattle.elementary.specs.Arithmetic.{bits}
+use Rattle.sheet_data.specs.declared.PartRoughness.{PartRoughness}
+use Rattle.sheet_data.specs.declared.PartRoughness.the-variants.{OfSettings, Own}
 use Rattle.sheet_data.specs.declared.Part.{Part}
 use Rattle.sheet_data.specs.declared.Sheet.{Sheet}
 use Rattle.sheet_data.specs.Layout.{most-columns, most-parts}
-use Rattle.cobalnis.specs.Words.{first-part, machs-at, part-words, settings-words, every, spread, float, floatWords, partOf, partWords, sheetOf, sheetWords}
+use Rattle.sheet_data.specs.Contents.{emptyPart}
+use Rattle.cobalnis.specs.Words.{first-part, machs-at, part-words, settings-words, every, spread, float, floatWords, ownOf, ownFlag, ownBits, partOf, partWords, sheetOf, sheetWords}
 use Rattle.cobalnis.proofs.Turns.{spread-long}
 
 -- ---- what the types say
@@ -28,12 +31,17 @@ abbrev Each : {A : Type 0} → (A → Type 0) → List A → Type 0
 Each ok [] = Unit
 Each ok (x ∷ xs) = ok x × Each ok xs
 
+abbrev OwnHeld : PartRoughness → Type 0
+OwnHeld OfSettings = Unit
+OwnHeld (Own x) = Number x
+
 pub record PartHeld (p : Part) : Type 0 where
   pub parameter : Number (parameterOf (p .shape))
   pub length : Number (p .length)
   pub aft : Number (p .«aft_diameter»)
   pub angle : Number (p .«joint_angle»)
   pub wetted : Number (p .«wetted_ratio»)
+  pub roughness : OwnHeld (p .roughness)
 
 pub record SheetHeld (s : Sheet) : Type 0 where
   pub diameter : Number (s .settings .«reference_diameter»)
@@ -76,6 +84,10 @@ shape-back (PowerSeries x) h = ap PowerSeries (number-back x h)
 shape-back (ParabolicSeries x) h = ap ParabolicSeries (number-back x h)
 shape-back (Haack x) h = ap Haack (number-back x h)
 
+own-back : (k : PartRoughness) → OwnHeld k → ownOf (ownFlag k) (bits (ownBits k)) ≡ k
+own-back OfSettings h = refl
+own-back (Own x) h = ap Own (number-back x h)
+
 part-back : (p : Part) (rest : List ℕ) → PartHeld p → (partOf (partWords p ++ rest) ≡ p) × (drop part-words (partWords p ++ rest) ≡ rest)
 part-back p rest h =
     let s = shape-back (p .shape) (h .parameter) in
@@ -83,7 +95,12 @@ part-back p rest h =
     let d = number-back (p .«aft_diameter») (h .aft) in
     let a = number-back (p .«joint_angle») (h .angle) in
     let w = number-back (p .«wetted_ratio») (h .wetted) in
-    (rw (s, l, d, a, w), refl)
+    let k = own-back (p .roughness) (h .roughness) in
+    (rw (s, l, d, a, w, k), refl)
+
+-- words that are all 0 stand for a part that was never filled, so a flag of 0 for the settings' roughness
+pub zeros-back : partOf (replicate part-words 0) ≡ emptyPart
+zeros-back = refl
 
 pub read-back : (s : Sheet) → SheetHeld s → sheetOf (sheetWords s) ≡ s
 unfolding sheetWords

@@ -11,7 +11,7 @@ use lib.Seq.{sets, sets-eq, drop-cons, drop-drop, getD-drop}
 use lib.Dec.{ltb}
 use Rattle.sheet_data.specs.Tables.{tab, tab-same}
 use Rattle.sheet_text.proofs.Puts.{sets-append}
-use Rattle.cobalnis.specs.Words.{every, spread, shapesKnown}
+use Rattle.cobalnis.specs.Words.{part-words, every, spread, shapesKnown}
 
 -- ---- reading
 
@@ -54,30 +54,32 @@ sets-all vs ws e = sets-eq vs ws 0 (omega arith) ∙ ap (λ (us : List ℕ). vs 
 
 -- ---- testing
 
-pub shapes-step : (n : ℕ) (ws : List ℕ) (i : ℕ) → i < n → ltb 5 (getD (drop (i * 6) ws) 0 0) ≡ false
-    → shapesKnown (n - i) (drop (i * 6) ws) ≡ shapesKnown (n - (i + 1)) (drop ((i + 1) * 6) ws)
+pub shapes-step : (n : ℕ) (ws : List ℕ) (i : ℕ) → i < n → ltb 5 (getD (drop (i * part-words) ws) 0 0) ≡ false
+    → shapesKnown (n - i) (drop (i * part-words) ws) ≡ shapesKnown (n - (i + 1)) (drop ((i + 1) * part-words) ws)
 unfolding shapesKnown
 shapes-step n ws i h low =
     let e : n - i ≡ suc (n - (i + 1)) = omega arith in
-    let k : i * 6 + 6 ≡ (i + 1) * 6 = omega arith in
-    ap (λ (m : ℕ). shapesKnown m (drop (i * 6) ws)) e
-    ∙ ap (λ (t : Bool). cond t false (shapesKnown (n - (i + 1)) (drop 6 (drop (i * 6) ws)))) low
-    ∙ ap (shapesKnown (n - (i + 1))) (drop-drop 6 (i * 6) ws ∙ ap (λ (m : ℕ). drop m ws) k)
+    let k : i * part-words + part-words ≡ (i + 1) * part-words = omega arith in
+    ap (λ (m : ℕ). shapesKnown m (drop (i * part-words) ws)) e
+    ∙ ap (λ (t : Bool). cond t false (shapesKnown (n - (i + 1)) (drop part-words (drop (i * part-words) ws)))) low
+    ∙ ap (shapesKnown (n - (i + 1))) (drop-drop part-words (i * part-words) ws ∙ ap (λ (m : ℕ). drop m ws) k)
 
-pub shapes-stop : (n : ℕ) (ws : List ℕ) (i : ℕ) → i < n → ltb 5 (getD (drop (i * 6) ws) 0 0) ≡ true → shapesKnown (n - i) (drop (i * 6) ws) ≡ false
+pub shapes-stop : (n : ℕ) (ws : List ℕ) (i : ℕ) → i < n → ltb 5 (getD (drop (i * part-words) ws) 0 0) ≡ true → shapesKnown (n - i) (drop (i * part-words) ws) ≡ false
 unfolding shapesKnown
 shapes-stop n ws i h high =
     let e : n - i ≡ suc (n - (i + 1)) = omega arith in
-    ap (λ (m : ℕ). shapesKnown m (drop (i * 6) ws)) e
-    ∙ ap (λ (t : Bool). cond t false (shapesKnown (n - (i + 1)) (drop 6 (drop (i * 6) ws)))) high
+    ap (λ (m : ℕ). shapesKnown m (drop (i * part-words) ws)) e
+    ∙ ap (λ (t : Bool). cond t false (shapesKnown (n - (i + 1)) (drop part-words (drop (i * part-words) ws)))) high
 
--- six words, stored one by one
-pub six-words : (ws : List ℕ) (at a b c d e f : ℕ)
-    → set (set (set (set (set (set ws at a) (at + 1) b) (at + 2) c) (at + 3) d) (at + 4) e) (at + 5) f ≡ sets ws at (a ∷ b ∷ c ∷ d ∷ e ∷ f ∷ [])
-six-words ws at a b c d e f =
+-- eight words, stored one by one
+pub eight-words : (ws : List ℕ) (at a b c d e f g h : ℕ)
+    → set (set (set (set (set (set (set (set ws at a) (at + 1) b) (at + 2) c) (at + 3) d) (at + 4) e) (at + 5) f) (at + 6) g) (at + 7) h ≡ sets ws at (a ∷ b ∷ c ∷ d ∷ e ∷ f ∷ g ∷ h ∷ [])
+eight-words ws at a b c d e f g h =
     let e1 : at + 1 ≡ suc at = omega arith in
     let e2 : at + 2 ≡ suc (suc at) = omega arith in
     let e3 : at + 3 ≡ suc (suc (suc at)) = omega arith in
     let e4 : at + 4 ≡ suc (suc (suc (suc at))) = omega arith in
     let e5 : at + 5 ≡ suc (suc (suc (suc (suc at)))) = omega arith in
-    rw (e1, e2, e3, e4, e5)
+    let e6 : at + 6 ≡ suc (suc (suc (suc (suc (suc at))))) = omega arith in
+    let e7 : at + 7 ≡ suc (suc (suc (suc (suc (suc (suc at)))))) = omega arith in
+    rw (e1, e2, e3, e4, e5, e6, e7)

@@ -1,16 +1,18 @@
 -- A part and a sheet as words of 64 bits: what a list of words stands for, and the words of a part and of a sheet. A float is the word of its bits.
 --
---   a part's words: the shape's number, its parameter, length, aft diameter, joint angle, wetted ratio
+--   a part's words: the shape's number, its parameter, length, aft diameter, joint angle, wetted ratio, whether the roughness is its own, and that roughness
 --   a sheet's words: reference diameter, roughness, body fineness, number of columns, the Machs, the Reynolds numbers, number of parts, the parts
 use mathlib.Core.Bool.{Bool, true, false, cond}
 use mathlib.Core.List.{List, [], _∷_, _++_}
 use Prim.Native.Nat.{ℕ, zero, suc, _+_, _*_}
 use lib.ListN.{getD, drop}
-use lib.Dec.{ltb}
+use lib.Dec.{ltb, eqb}
 use lib.Ieee.{Float, toBits, binary64}
 use Rattle.elementary.specs.Arithmetic.{bits}
 use Rattle.shapes.specs.Numbers.{numberOfShape, shapeOf, parameterOf}
 use Rattle.sheet_data.specs.declared.Settings.{Settings}
+use Rattle.sheet_data.specs.declared.PartRoughness.{PartRoughness}
+use Rattle.sheet_data.specs.declared.PartRoughness.the-variants.{OfSettings, Own}
 use Rattle.sheet_data.specs.declared.Part.{Part}
 use Rattle.sheet_data.specs.declared.Sheet.{Sheet}
 use Rattle.sheet_data.specs.Layout.{most-columns, most-parts}
@@ -18,7 +20,7 @@ use Rattle.sheet_data.specs.Layout.{most-columns, most-parts}
 -- ---- where the words lie
 
 abbrev pub part-words : ℕ
-part-words = 6
+part-words = 8
 
 abbrev pub machs-at : ℕ
 machs-at = 4
@@ -46,6 +48,10 @@ every read size (suc n) ws = read ws ∷ every read size n (drop size ws)
 abbrev pub float : List ℕ → Float
 float ws = bits (getD ws 0 0)
 
+-- a part's roughness: with flag 0 the settings' one, with any other its own
+abbrev pub ownOf : ℕ → Float → PartRoughness
+ownOf flag x = cond (eqb flag 0) OfSettings (Own x)
+
 abbrev pub partOf : List ℕ → Part
 partOf ws = record {
   shape = shapeOf (getD ws 0 0) (bits (getD ws 1 0));
@@ -53,6 +59,7 @@ partOf ws = record {
   «aft_diameter» = bits (getD ws 3 0);
   «joint_angle» = bits (getD ws 4 0);
   «wetted_ratio» = bits (getD ws 5 0);
+  roughness = ownOf (getD ws 6 0) (bits (getD ws 7 0));
 }
 
 abbrev pub settingsOf : List ℕ → Settings
@@ -83,6 +90,15 @@ spread words (x ∷ xs) = words x ++ spread words xs
 abbrev pub floatWords : Float → List ℕ
 floatWords x = toBits binary64 x ∷ []
 
+-- whether a part's roughness is its own, and its bits; both 0 where it is the settings' one
+abbrev pub ownFlag : PartRoughness → ℕ
+ownFlag OfSettings = 0
+ownFlag (Own x) = 1
+
+abbrev pub ownBits : PartRoughness → ℕ
+ownBits OfSettings = 0
+ownBits (Own x) = toBits binary64 x
+
 abbrev pub partWords : Part → List ℕ
 partWords p =
     numberOfShape (p .shape)
@@ -91,6 +107,8 @@ partWords p =
     ∷ toBits binary64 (p .«aft_diameter»)
     ∷ toBits binary64 (p .«joint_angle»)
     ∷ toBits binary64 (p .«wetted_ratio»)
+    ∷ ownFlag (p .roughness)
+    ∷ ownBits (p .roughness)
     ∷ []
 
 abbrev pub settingsWords : Settings → List ℕ

@@ -4,18 +4,20 @@ ghost use mathlib.Core.Path.{_≡_};
 ghost use Prim.Native.Nat.{_+_, _≤_};
 ghost use lib.ListN.{length, drop};
 ghost use lib.Seq.{sets};
+ghost use Rattle.elementary.specs.Arithmetic.{bits};
 ghost use Rattle.sheet_data.specs.Layout.{most-parts, most-columns};
-ghost use Rattle.cobalnis.specs.Words.{part-words, first-part, sheet-words, every, spread, float, floatWords, partOf, partWords, settingsOf, settingsWords, sheetOf, sheetWords, shapesKnown};
+ghost use Rattle.cobalnis.specs.Words.{part-words, first-part, sheet-words, every, spread, float, floatWords, ownOf, ownFlag, ownBits, partOf, partWords, settingsOf, settingsWords, sheetOf, sheetWords, shapesKnown};
 use shapes::NoseShape;
 use sheet_data::Design;
 use sheet_data::Part;
+use sheet_data::PartRoughness;
 use sheet_data::Settings;
 use sheet_data::Sheet;
 use sheet_data::layout::COLUMNS;
 use sheet_data::layout::PARTS;
 
 // Where the words lie: the Machs, the Reynolds numbers, the number of parts, the parts.
-pub const PART_WORDS: usize = 6;
+pub const PART_WORDS: usize = 8;
 
 pub const MACHS_AT: usize = 4;
 
@@ -29,6 +31,16 @@ pub const SHEET_WORDS: usize = FIRST_PART + PARTS * PART_WORDS;
 
 // ---- from words
 
+// A part's roughness from its flag and its word, which is not looked at where the flag is 0.
+fn own_of(flag: u64, word: u64) -> PartRoughness
+    ensures { λ r. ⌜ r ≡ ownOf flag (bits word) ⌝ }
+{
+    if flag == 0 {
+        return PartRoughness::OfSettings;
+    }
+    PartRoughness::Own(elementary::from_bits(word))
+}
+
 // The part whose words begin at a place.
 fn part_at(words: &[u64], at: usize) -> Part
     requires { ⌜ at + part-words ≤ length (now words) ⌝ }
@@ -40,6 +52,7 @@ fn part_at(words: &[u64], at: usize) -> Part
         aft_diameter: elementary::from_bits(words[at + 3]),
         joint_angle: elementary::from_bits(words[at + 4]),
         wetted_ratio: elementary::from_bits(words[at + 5]),
+        roughness: own_of(words[at + 6], words[at + 7]),
     }
 }
 
@@ -121,10 +134,30 @@ pub fn shapes_known(words: &[u64; SHEET_WORDS]) -> bool
 
 // ---- to words
 
+// A part's roughness as flag and word, both 0 for the settings' one.
+fn own_flag(roughness: PartRoughness) -> u64
+    ensures { λ r. ⌜ r ≡ ownFlag roughness ⌝ }
+{
+    match roughness {
+        PartRoughness::OfSettings => 0,
+        PartRoughness::Own(_) => 1,
+    }
+}
+
+fn own_bits(roughness: PartRoughness) -> u64
+    ensures { λ r. ⌜ r ≡ ownBits roughness ⌝ }
+{
+    match roughness {
+        PartRoughness::OfSettings => 0,
+        PartRoughness::Own(x) => elementary::to_bits(x),
+    }
+}
+
 pub fn part_words(part: Part) -> [u64; PART_WORDS]
     ensures { λ r. ⌜ r ≡ partWords part ⌝ }
 {
     let shape = part.shape;
+    let roughness = part.roughness;
     [
         shape.number() as u64,
         elementary::to_bits(shape.parameter()),
@@ -132,6 +165,8 @@ pub fn part_words(part: Part) -> [u64; PART_WORDS]
         elementary::to_bits(part.aft_diameter),
         elementary::to_bits(part.joint_angle),
         elementary::to_bits(part.wetted_ratio),
+        own_flag(roughness),
+        own_bits(roughness),
     ]
 }
 
@@ -150,13 +185,15 @@ fn put_part(part: Part, words: &mut [u64; SHEET_WORDS], at: usize)
     requires { ⌜ at + part-words ≤ sheet-words ⌝ }
     ensures { λ _. ⌜ now (words .exit) ≡ sets (now (words .entry)) at (partWords part) ⌝ }
 {
-    let six = part_words(part);
-    words[at] = six[0];
-    words[at + 1] = six[1];
-    words[at + 2] = six[2];
-    words[at + 3] = six[3];
-    words[at + 4] = six[4];
-    words[at + 5] = six[5];
+    let eight = part_words(part);
+    words[at] = eight[0];
+    words[at + 1] = eight[1];
+    words[at + 2] = eight[2];
+    words[at + 3] = eight[3];
+    words[at + 4] = eight[4];
+    words[at + 5] = eight[5];
+    words[at + 6] = eight[6];
+    words[at + 7] = eight[7];
 }
 
 fn put_parts(parts: [Part; PARTS], words: &mut [u64; SHEET_WORDS])

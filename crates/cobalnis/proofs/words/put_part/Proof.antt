@@ -3,7 +3,7 @@ use mathlib.Core.Path.{ap, _∙_}
 use mathlib.Core.List.{List}
 use Prim.Native.Nat.{ℕ, _+_}
 use lib.ListN.{set, getD}
-use Rattle.cobalnis.proofs.Turns.{six-words}
+use Rattle.cobalnis.proofs.Turns.{eight-words}
 use borrow.Author.Needs.{needs}
 use Rattle.cobalnis.proofs.words.put_part.Statement.{statement}
 use Rattle.cobalnis.proofs.words.put_part.Tie as tie
@@ -12,7 +12,7 @@ returns : tie.Need-returns
 returns c =
     let ws = c .before .args .words .now in
     let at = c .before .args .at in
-    ap (λ (six : List ℕ). set (set (set (set (set (set ws at (getD six 0 0)) (at + 1) (getD six 1 0)) (at + 2) (getD six 2 0)) (at + 3) (getD six 3 0)) (at + 4) (getD six 4 0)) (at + 5) (getD six 5 0)) (c .part-words .ensures) ∙ six-words ws at _ _ _ _ _ _
+    ap (λ (eight : List ℕ). set (set (set (set (set (set (set (set ws at (getD eight 0 0)) (at + 1) (getD eight 1 0)) (at + 2) (getD eight 2 0)) (at + 3) (getD eight 3 0)) (at + 4) (getD eight 4 0)) (at + 5) (getD eight 5 0)) (at + 6) (getD eight 6 0)) (at + 7) (getD eight 7 0)) (c .part-words .ensures) ∙ eight-words ws at _ _ _ _ _ _ _ _
 
 pub put-part-spec : {M : Type 1} → statement M
 put-part-spec =
@@ -21,4 +21,5 @@ put-part-spec =
     (λ c κs. search needs) (λ c. search needs) (λ c. search needs) (λ c. search needs) (λ c. search needs) (λ c. search needs)
     (λ c. search needs) (λ c. search needs) (λ c. search needs) (λ c. search needs) (λ c. search needs) (λ c. search needs) (λ c. search needs)
     (λ c. search needs) (λ c. search needs) (λ c. search needs) (λ c. search needs) (λ c. search needs) (λ c. search needs) (λ c. search needs)
+    (λ c. search needs) (λ c. search needs) (λ c. search needs) (λ c. search needs) (λ c. search needs) (λ c. search needs) (λ c. search needs) (λ c. search needs)
     (λ c. search needs) (λ c. search needs) (λ c. search needs) (λ c. search needs) returns)

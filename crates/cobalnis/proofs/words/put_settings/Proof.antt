@@ -6,7 +6,7 @@ use Prim.Native.Nat.{ℕ, _+_}
 use lib.ListN.{length, set, length-map}
 use lib.Seq.{sets}
 use Rattle.sheet_data.specs.Layout.{most-columns}
-use Rattle.cobalnis.specs.Words.{spread, floatWords}
+use Rattle.cobalnis.specs.Words.{machs-at, reynolds-at, spread, floatWords}
 use Rattle.sheet_text.proofs.Puts.{sets-append}
 use Rattle.cobalnis.proofs.Turns.{spread-long}
 use borrow.Author.Needs.{needs}
@@ -25,12 +25,12 @@ returns c =
     let r = spread floatWords (s .args .settings .reynolds) in
     let n = spread-long floatWords 1 (λ x. refl) (s .args .settings .machs) in
     let l = long s in
-    let e : 36 ≡ 4 + length m = omega (arith, n, l) in
+    let e : reynolds-at ≡ machs-at + length m = omega (arith, n, l) in
     let us = set (set (set (set ws 0 (c .before .before .before .before .before .before .to-bits .result)) 1 (c .before .before .before .before .before .to-bits2 .result)) 2 (c .before .before .before .before .to-bits3 .result)) 3 (s .args .settings .count) in
     c .put-floats2 .ensures
-    ∙ ap (λ (vs : List ℕ). sets vs 36 r) (c .before .before .put-floats .ensures)
-    ∙ ap (λ (k : ℕ). sets (sets us 4 m) k r) e
-    ∙ sym (sets-append m r us 4)
+    ∙ ap (λ (vs : List ℕ). sets vs reynolds-at r) (c .before .before .put-floats .ensures)
+    ∙ ap (λ (k : ℕ). sets (sets us machs-at m) k r) e
+    ∙ sym (sets-append m r us machs-at)
     ∙ simp (c .before .before .before .before .before .before .to-bits .ensures, c .before .before .before .before .before .to-bits2 .ensures, c .before .before .before .before .to-bits3 .ensures)
 
 pub put-settings-spec : {M : Type 1} → statement M
