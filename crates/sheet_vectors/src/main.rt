@@ -5,10 +5,11 @@
 // calls and aren't counted, unless they don't agree.
 //
 //     o open                      no arguments
-//     i insert, r replace         place, the part's six words
+//     i insert, r replace         place, the part's first six words
 //     m remove                    place
 //     t set column                column, Mach, Reynolds number
 //     w words of the sheet        the first one's place, how many, up to six words
+//     k roughness of the parts    flag and bits, for the i and r lines that follow; 0 and 0 before the first one
 //     l cells lent                how many
 //     f all cells                 the first one's bits, and what each further one adds
 //     p one cell                  its place, its bits
@@ -66,7 +67,7 @@ fn with_column(h: u64, words: &[u64; SHEET_WORDS], column: usize) -> u64 {
     )
 }
 
-// The words of a part, a shape's number and five floats, where the sheet has so many.
+// The words of a part, where the sheet has so many: a shape's number, five floats, a flag and a float.
 fn with_part(h: u64, words: &[u64; SHEET_WORDS], place: usize) -> u64 {
     if PARTS <= place || words[SETTINGS_WORDS] <= place as u64 {
         return h;
@@ -74,7 +75,8 @@ fn with_part(h: u64, words: &[u64; SHEET_WORDS], place: usize) -> u64 {
     let at = FIRST_PART + PART_WORDS * place;
     let h = with_float(mixed(h, words[at]), words[at + 1]);
     let h = with_float(with_float(h, words[at + 2]), words[at + 3]);
-    with_float(with_float(h, words[at + 4]), words[at + 5])
+    let h = with_float(with_float(h, words[at + 4]), words[at + 5]);
+    with_float(mixed(h, words[at + 6]), words[at + 7])
 }
 
 // The first n parts, or the first n columns.
@@ -122,7 +124,13 @@ fn is_call(tag: u8) -> bool {
     }
 }
 
-fn part_at(line: &[u8]) -> [u64; 6] {
+// The last two words of a part, which its own line has no room for.
+struct Roughness {
+    flag: u64,
+    bits: u64,
+}
+
+fn part_at(line: &[u8], roughness: Roughness) -> [u64; PART_WORDS] {
     [
         word_at(line, 1),
         word_at(line, 2),
@@ -130,13 +138,21 @@ fn part_at(line: &[u8]) -> [u64; 6] {
         word_at(line, 4),
         word_at(line, 5),
         word_at(line, 6),
+        roughness.flag,
+        roughness.bits,
     ]
 }
 
 // The call of a tag, on the cells that are lent: its status, and the value refused.
-fn called(line: &[u8], words: &mut [u64; SHEET_WORDS], cells: &mut [f64], bits: &mut u64) -> u32 {
+fn called(
+    line: &[u8],
+    roughness: Roughness,
+    words: &mut [u64; SHEET_WORDS],
+    cells: &mut [f64],
+    bits: &mut u64,
+) -> u32 {
     let at = word_at(line, 0) as usize;
-    let part = part_at(line);
+    let part = part_at(line, roughness);
     match tag_of(line) {
         b'o' => cobalnis_open(words, cells, bits),
         b'i' => cobalnis_insert(words, at, &part, cells, bits),
@@ -204,13 +220,14 @@ fn change(line: &[u8], words: &mut [u64; SHEET_WORDS], cells: &mut [f64]) {
 // A call, or a change by hand, whose status is 0.
 fn carried_out(
     line: &[u8],
+    roughness: Roughness,
     cell_count: usize,
     words: &mut [u64; SHEET_WORDS],
     cells: &mut [f64],
     bits: &mut u64,
 ) -> u32 {
     if is_call(tag_of(line)) && cell_count <= cells.len() {
-        return called(line, words, &mut cells[0..cell_count], bits);
+        return called(line, roughness, words, &mut cells[0..cell_count], bits);
     }
     change(line, words, cells);
     0
@@ -218,9 +235,10 @@ fn carried_out(
 
 // ---- replaying
 
-// What is counted so far, how many cells are lent, and whether there may be more lines.
+// What is counted so far, the last two words of the parts given, how many cells are lent, and whether there may be more lines.
 struct Turn {
     counts: Counts,
+    roughness: Roughness,
     cell_count: usize,
     more: bool,
 }
@@ -252,12 +270,24 @@ fn is_answered(line: &[u8], status: u32, bits: u64, number: u64) -> bool {
         & (word_at(line, 10) == number)
 }
 
+// The roughness of the parts that follow a line.
+fn roughness_after(line: &[u8], before: Roughness) -> Roughness {
+    if tag_of(line) == b'k' {
+        return Roughness {
+            flag: word_at(line, 0),
+            bits: word_at(line, 1),
+        };
+    }
+    before
+}
+
 // One line more.
 fn after(turn: Turn, line: &[u8], words: &mut [u64; SHEET_WORDS], cells: &mut [f64]) -> Turn {
     let tag = tag_of(line);
     let counts = turn.counts;
+    let roughness = turn.roughness;
     let mut bits = 0u64;
-    let status = carried_out(line, turn.cell_count, words, cells, &mut bits);
+    let status = carried_out(line, roughness, turn.cell_count, words, cells, &mut bits);
     let agrees = is_answered(line, status, bits, number_of(words, cells));
     let cell_count = if tag == b'l' {
         word_at(line, 0) as usize
@@ -266,6 +296,7 @@ fn after(turn: Turn, line: &[u8], words: &mut [u64; SHEET_WORDS], cells: &mut [f
     };
     Turn {
         counts: counted(counts, tag, agrees),
+        roughness: roughness_after(line, roughness),
         cell_count,
         more: true,
     }
@@ -277,8 +308,10 @@ fn replay_line(turn: Turn, words: &mut [u64; SHEET_WORDS], cells: &mut [f64]) ->
     let n = io::read_full(STDIN_FILENO, &mut line);
     if n == 0 {
         let counts = turn.counts;
+        let roughness = turn.roughness;
         return Turn {
             counts,
+            roughness,
             cell_count: turn.cell_count,
             more: false,
         };
@@ -294,6 +327,7 @@ fn replay_all() -> Counts {
     let mut turns = u64::MAX;
     let mut turn = Turn {
         counts: Counts::none(),
+        roughness: Roughness { flag: 0, bits: 0 },
         cell_count: 0,
         more: true,
     };
