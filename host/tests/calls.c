@@ -1,33 +1,9 @@
 /* Each function of the C interface once accepted and once refused, and the
- * typed functions over them. The exit status is 1 if a test failed. */
-#include "cobalnis.h"
+ * typed functions over them. The sheet and the cards are in sheets.c. The exit
+ * status is 1 if a test failed. */
+#include "check.h"
 
-#include <math.h>
-#include <stdio.h>
-
-static int failures = 0;
-
-#define CHECK(what)                                                   \
-    do {                                                              \
-        if (!(what)) {                                                \
-            printf("calls.c:%d: not so: %s\n", __LINE__, #what);      \
-            failures++;                                               \
-        }                                                             \
-    } while (0)
-
-/* Refusal 1 of this code. */
-#define DOMAIN_OF(code) (COBALNIS_DOMAIN + 256u * (code))
-
-static const uint64_t SHOWN_NAN = 0x7ff8000000000000u;
-
-/* The cards of docs/REFERENCE.md, Example: D and B of 1, one column at rest, a flat face. */
-static const uint8_t CARDS[] = {
-    0x0d, 0, 0, 0, 0, 0, 0, 0xf0, 0x3f, 0, 0, 0, 0, 0, 0, 0xf0, 0x3f,
-    0x01, 0, 0, 0, 0, 0, 0, 0,    0,    0, 0, 0, 0, 0, 0, 0,    0,
-    0x08, 0, 0, 0, 0, 0, 0, 0xf0, 0x3f,
-};
-
-static const cobalnis_part FACE = {COBALNIS_CONICAL, 0, 0, 1, 0, 0};
+int failures = 0;
 
 static void raw_formulas(void)
 {
@@ -273,137 +249,6 @@ static void curves(void)
     CHECK(cobalnis_curve_new(7, 0, 1, 0, &curve, &x) == COBALNIS_NO_SUCH);
 }
 
-/* The sheet of docs/REFERENCE.md, Example, opened over these cells. */
-static cobalnis_sheet example(double *cells, size_t cell_count)
-{
-    cobalnis_sheet sheet = {.reference_diameter = 1, .body_fineness = 1, .columns = 1};
-    CHECK(cobalnis_sheet_open(&sheet, cells, cell_count, NULL) == 0);
-    return sheet;
-}
-
-static void sheet_calls(void)
-{
-    double cells[COBALNIS_ROWS + 1], x = 7;
-    for (size_t i = 0; i <= COBALNIS_ROWS; i++)
-        cells[i] = -3;
-    cobalnis_sheet sheet = example(cells, COBALNIS_ROWS);
-    CHECK(sheet.parts == 0 && cells[0] == 0);
-    CHECK(cobalnis_sheet_insert(&sheet, 0, FACE, cells, COBALNIS_ROWS, &x) == 0);
-    CHECK(sheet.parts == 1 && sheet.part[0].aft_diameter == 1);
-    CHECK(cobalnis_sheet_row(&sheet, 0, cells)[0] == 0.85);
-    CHECK(cobalnis_sheet_row(&sheet, COBALNIS_FRICTION, cells)[0] == 0);
-    CHECK(cobalnis_sheet_row(&sheet, COBALNIS_BASE, cells)[0] == 0.12);
-    CHECK(cobalnis_sheet_row(&sheet, COBALNIS_TOTAL, cells)[0] == 0.85 + 0.12);
-    CHECK(cells[COBALNIS_ROWS] == -3);
-
-    cobalnis_part half = FACE;
-    half.aft_diameter = 0.5;
-    CHECK(cobalnis_sheet_replace(&sheet, 0, half, cells, COBALNIS_ROWS, &x) == 0);
-    CHECK(cells[0] == 0.85 * 0.25);
-    CHECK(cobalnis_sheet_set_column(&sheet, 0, 1, 1e6, cells, COBALNIS_ROWS, &x) == 0);
-    CHECK(sheet.mach[0] == 1 && sheet.reynolds[0] == 1e6);
-    CHECK(cobalnis_sheet_remove(&sheet, 0, cells, COBALNIS_ROWS, &x) == 0);
-    CHECK(sheet.parts == 0 && cells[0] == 0);
-}
-
-static void sheet_refusals(void)
-{
-    double cells[COBALNIS_ROWS], x = 7;
-    cobalnis_sheet sheet = example(cells, COBALNIS_ROWS);
-    cobalnis_sheet before = sheet;
-    cobalnis_part bad = FACE;
-    bad.joint_angle = NAN;
-    CHECK(cobalnis_sheet_insert(&sheet, 0, bad, cells, COBALNIS_ROWS, &x) ==
-          DOMAIN_OF(COBALNIS_JOINT_ANGLE));
-    CHECK(isnan(x));
-    bad.shape = 6;
-    CHECK(cobalnis_sheet_insert(&sheet, 9, bad, cells, 0, &x) == COBALNIS_RESERVED);
-    CHECK(cobalnis_sheet_replace(&sheet, 0, FACE, cells, COBALNIS_ROWS, &x) == COBALNIS_NO_PLACE);
-    CHECK(cobalnis_sheet_remove(&sheet, 0, cells, COBALNIS_ROWS, &x) == COBALNIS_NO_PLACE);
-    CHECK(cobalnis_sheet_remove(&sheet, 0, cells, 18, &x) == COBALNIS_FEW_CELLS);
-    CHECK(cobalnis_sheet_set_column(&sheet, 1, 0, 0, cells, COBALNIS_ROWS, &x) ==
-          COBALNIS_NO_PLACE);
-    CHECK(cobalnis_sheet_set_column(&sheet, 0, -1, 0, cells, COBALNIS_ROWS, &x) ==
-          DOMAIN_OF(COBALNIS_MACH));
-    CHECK(x == -1);
-    CHECK(memcmp(&sheet, &before, sizeof sheet) == 0);
-
-    for (size_t i = 0; i < COBALNIS_PLACES; i++)
-        CHECK(cobalnis_sheet_insert(&sheet, i, FACE, cells, COBALNIS_ROWS, NULL) == 0);
-    CHECK(cobalnis_sheet_insert(&sheet, 0, FACE, cells, COBALNIS_ROWS, NULL) ==
-          COBALNIS_MANY_PARTS);
-    sheet.columns = 33;
-    CHECK(cobalnis_sheet_open(&sheet, cells, COBALNIS_ROWS, NULL) == COBALNIS_MANY_COLUMNS);
-    sheet.columns = 1;
-    sheet.reference_diameter = 0;
-    CHECK(cobalnis_sheet_open(&sheet, cells, COBALNIS_ROWS, NULL) == COBALNIS_HOUSE_INTERVAL);
-}
-
-/* A body so short that its form factor overflows, with nothing wetted: the
- * friction is a NaN. */
-static void nan_cells(void)
-{
-    double cells[COBALNIS_ROWS];
-    cobalnis_sheet sheet = {.reference_diameter = 1, .body_fineness = 1e-320, .columns = 1};
-    CHECK(cobalnis_sheet_open(&sheet, cells, COBALNIS_ROWS, NULL) == 0);
-    CHECK(cobalnis_bits(cells[COBALNIS_FRICTION]) == SHOWN_NAN);
-    CHECK(cobalnis_bits(cells[COBALNIS_TOTAL]) == SHOWN_NAN);
-    CHECK(cobalnis_bits(-0.0) == 0x8000000000000000u && cobalnis_bits(-NAN) == SHOWN_NAN);
-    CHECK(cobalnis_bits(INFINITY) == 0x7ff0000000000000u);
-}
-
-/* The words' functions themselves, which the typed ones pass on to. */
-static void raw_sheet(void)
-{
-    double cells[COBALNIS_ROWS];
-    uint64_t words[COBALNIS_SHEET_WORDS] = {0}, part[COBALNIS_PART_WORDS] = {0}, bits = 7;
-    size_t next = 7;
-    CHECK(cobalnis_open(words, cells, COBALNIS_ROWS, &bits) == COBALNIS_HOUSE_INTERVAL);
-    CHECK(cobalnis_read_settings(CARDS, sizeof CARDS, 0, words, &next) == 0 && next == 34);
-    CHECK(cobalnis_open(words, cells, COBALNIS_ROWS, &bits) == 0);
-    CHECK(cobalnis_read_part(CARDS, sizeof CARDS, next, part, &next) == 0 && next == 43);
-    CHECK(cobalnis_insert(words, 0, part, cells, COBALNIS_ROWS, &bits) == 0 && words[68] == 1);
-    CHECK(cobalnis_replace(words, 0, part, cells, COBALNIS_ROWS, &bits) == 0);
-    CHECK(cobalnis_set_column(words, 0, 0, 0, cells, COBALNIS_ROWS, &bits) == 0);
-    CHECK(cobalnis_remove(words, 0, cells, COBALNIS_ROWS, &bits) == 0 && words[68] == 0);
-    CHECK(cobalnis_insert(words, 1, part, cells, COBALNIS_ROWS, &bits) == COBALNIS_NO_PLACE);
-    CHECK(cobalnis_replace(words, 0, part, cells, COBALNIS_ROWS, &bits) == COBALNIS_NO_PLACE);
-    CHECK(cobalnis_remove(words, 0, cells, COBALNIS_ROWS, &bits) == COBALNIS_NO_PLACE);
-    CHECK(cobalnis_set_column(words, 0, NAN, 0, cells, COBALNIS_ROWS, &bits) ==
-          DOMAIN_OF(COBALNIS_MACH));
-    CHECK(bits == SHOWN_NAN);
-}
-
-static void cards(void)
-{
-    cobalnis_sheet sheet = {.columns = 7};
-    cobalnis_part part = {.length = 7};
-    size_t next = 7;
-    CHECK(cobalnis_sheet_read_settings(CARDS, 1, 0, &sheet, &next) == COBALNIS_ENDED);
-    CHECK(cobalnis_sheet_read_settings(CARDS, sizeof CARDS, 34, &sheet, &next) == COBALNIS_FIELD);
-    CHECK(cobalnis_part_read((const uint8_t *)"\x40", 1, 0, &part, &next) == COBALNIS_RESERVED);
-    CHECK(cobalnis_part_read(CARDS, sizeof CARDS, sizeof CARDS, &part, &next) == COBALNIS_ENDED);
-    CHECK(next == 7 && sheet.columns == 7 && part.length == 7);
-    CHECK(cobalnis_sheet_read_settings(CARDS, sizeof CARDS, 0, &sheet, &next) == 0);
-    CHECK(sheet.columns == 1 && sheet.reference_diameter == 1 && next == 34);
-    CHECK(cobalnis_part_read(CARDS, sizeof CARDS, next, &part, &next) == 0 && next == 43);
-    CHECK(part.shape == COBALNIS_CONICAL && part.aft_diameter == 1 && part.length == 0);
-
-    static const char text[] = "mach 0000000000000000\npart 0 3feb333333333333\n"
-                               "friction 0000000000000000\nbase 3fbeb851eb851eb8\n"
-                               "total 3fef0a3d70a3d70a\n";
-    static uint8_t out[COBALNIS_LONGEST_TEXT];
-    CHECK(cobalnis_print(CARDS, sizeof CARDS, out, sizeof out) == sizeof text - 1);
-    CHECK(memcmp(out, text, sizeof text - 1) == 0);
-    CHECK(cobalnis_print(CARDS, 1, out, sizeof out) == strlen("refused 4 card 0\n"));
-    CHECK(cobalnis_print(CARDS, sizeof CARDS, out, sizeof out - 1) == 0);
-
-    static const char names[] = "mach\nfriction\nbase\ntotal\n";
-    CHECK(cobalnis_print(CARDS, 0, out, sizeof out) == sizeof names - 1);
-    CHECK(memcmp(out, names, sizeof names - 1) == 0);
-    CHECK(cobalnis_sheet_read_settings(CARDS, 0, 0, &sheet, &next) == COBALNIS_ENDED);
-}
-
 int main(void)
 {
     CHECK(cobalnis_number(DOMAIN_OF(22)) == 1 && cobalnis_code(DOMAIN_OF(22)) == 22);
@@ -419,10 +264,6 @@ int main(void)
     nose_formulas();
     arguments_in_order();
     curves();
-    sheet_calls();
-    sheet_refusals();
-    nan_cells();
-    raw_sheet();
-    cards();
+    sheets_and_cards();
     return failures > 0;
 }

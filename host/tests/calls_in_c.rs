@@ -1,4 +1,4 @@
-//! Compiles tests/calls.c against the header and the archive, and runs it.
+//! Compiles tests/calls.c and tests/sheets.c against the header and the archive, and runs them.
 
 use std::path::Path;
 use std::process::Command;
@@ -12,6 +12,7 @@ fn calls_in_c() {
         .arg("-I")
         .arg(here.join("include"))
         .arg(here.join("tests/calls.c"))
+        .arg(here.join("tests/sheets.c"))
         .arg(env!("COBALNIS_ARCHIVE"))
         .args(["-lm", "-o"])
         .arg(&program)
