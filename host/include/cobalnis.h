@@ -47,7 +47,7 @@ enum {
 
 /* Words of a part, where those of a sheet begin, and words of a sheet. */
 enum {
-    COBALNIS_PART_WORDS = 6,
+    COBALNIS_PART_WORDS = 8,
     COBALNIS_MACHS_AT = 4,
     COBALNIS_REYNOLDS_AT = COBALNIS_MACHS_AT + COBALNIS_COLUMNS,
     COBALNIS_PARTS_AT = COBALNIS_REYNOLDS_AT + COBALNIS_COLUMNS,
@@ -235,6 +235,8 @@ size_t cobalnis_print(const uint8_t *bytes, size_t n, uint8_t *out, size_t m);
 
 /* ---- structs that lie as the words do */
 
+/* Where own_roughness is 0, roughness is not looked at; any other number makes
+ * it the part's own. Handed back: 0 and 0, or 1 and the part's own. */
 typedef struct {
     uint64_t shape;
     double parameter; /* 0 for a conical and an elliptical one */
@@ -242,6 +244,8 @@ typedef struct {
     double aft_diameter;
     double joint_angle;
     double wetted_ratio;
+    uint64_t own_roughness; /* 0: the settings' roughness */
+    double roughness;
 } cobalnis_part;
 
 typedef struct {
@@ -268,7 +272,9 @@ typedef struct {
 
 static_assert(sizeof(double) == 8 && sizeof(uint64_t) == 8, "a word has 8 bytes");
 static_assert(sizeof(cobalnis_part) == 8 * COBALNIS_PART_WORDS, "a part's words");
-static_assert(offsetof(cobalnis_part, wetted_ratio) == 8 * 5, "the last word of a part");
+static_assert(offsetof(cobalnis_part, wetted_ratio) == 8 * 5, "the wetted ratio");
+static_assert(offsetof(cobalnis_part, own_roughness) == 8 * 6, "whether it has a roughness");
+static_assert(offsetof(cobalnis_part, roughness) == 8 * 7, "the last word of a part");
 static_assert(sizeof(cobalnis_sheet) == 8 * COBALNIS_SHEET_WORDS, "a sheet's words");
 static_assert(offsetof(cobalnis_sheet, columns) == 8 * 3, "the number of columns");
 static_assert(offsetof(cobalnis_sheet, mach) == 8 * COBALNIS_MACHS_AT, "Machs");

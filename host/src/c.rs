@@ -14,7 +14,7 @@ pub const PARTS_AT: usize = REYNOLDS_AT + COLUMNS;
 pub const FIRST_PART: usize = PARTS_AT + 1;
 
 /// Words of a part and of a sheet.
-pub const PART_WORDS: usize = 6;
+pub const PART_WORDS: usize = 8;
 pub const SHEET_WORDS: usize = FIRST_PART + PLACES * PART_WORDS;
 
 pub type PartWords = [u64; PART_WORDS];

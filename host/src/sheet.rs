@@ -91,6 +91,8 @@ pub struct Part {
     pub joint_angle: f64,
     /// Wetted area over reference area, from 0 to 10000.
     pub wetted_ratio: f64,
+    /// Its own, from 0 to 1; none: the settings' roughness.
+    pub roughness: Option<f64>,
 }
 
 impl Part {
@@ -103,6 +105,8 @@ impl Part {
             self.aft_diameter.to_bits(),
             self.joint_angle.to_bits(),
             self.wetted_ratio.to_bits(),
+            u64::from(self.roughness.is_some()),
+            self.roughness.map_or(0, f64::to_bits),
         ]
     }
 
@@ -115,6 +119,7 @@ impl Part {
             aft_diameter: float(3),
             joint_angle: float(4),
             wetted_ratio: float(5),
+            roughness: (words[6] != 0).then(|| float(7)),
         })
     }
 

@@ -9,7 +9,7 @@ static const uint8_t CARDS[] = {
     0x08, 0, 0, 0, 0, 0, 0, 0xf0, 0x3f,
 };
 
-static const cobalnis_part FACE = {COBALNIS_CONICAL, 0, 0, 1, 0, 0};
+static const cobalnis_part FACE = {.shape = COBALNIS_CONICAL, .aft_diameter = 1};
 
 /* The sheet of docs/REFERENCE.md, Example, opened over these cells. */
 static cobalnis_sheet example(double *cells, size_t cell_count)
@@ -77,17 +77,98 @@ static void sheet_refusals(void)
     CHECK(cobalnis_sheet_open(&sheet, cells, COBALNIS_ROWS, NULL) == COBALNIS_HOUSE_INTERVAL);
 }
 
-/* A body so short that its form factor overflows, with nothing wetted: the
- * friction is a NaN. */
+/* A body so short that its form factor overflows, and a part with nothing
+ * wetted: the friction is a NaN. Without parts it is +0. */
 static void nan_cells(void)
 {
     double cells[COBALNIS_ROWS];
     cobalnis_sheet sheet = {.reference_diameter = 1, .body_fineness = 1e-320, .columns = 1};
     CHECK(cobalnis_sheet_open(&sheet, cells, COBALNIS_ROWS, NULL) == 0);
+    CHECK(cobalnis_bits(cells[COBALNIS_FRICTION]) == 0);
+    CHECK(cobalnis_sheet_insert(&sheet, 0, FACE, cells, COBALNIS_ROWS, NULL) == 0);
     CHECK(cobalnis_bits(cells[COBALNIS_FRICTION]) == SHOWN_NAN);
     CHECK(cobalnis_bits(cells[COBALNIS_TOTAL]) == SHOWN_NAN);
     CHECK(cobalnis_bits(-0.0) == 0x8000000000000000u && cobalnis_bits(-NAN) == SHOWN_NAN);
     CHECK(cobalnis_bits(INFINITY) == 0x7ff0000000000000u);
+}
+
+/* A flat face of wetted ratio 0.5, with a roughness of its own. */
+static cobalnis_part finished(double roughness)
+{
+    cobalnis_part part = FACE;
+    part.wetted_ratio = 0.5;
+    part.own_roughness = 1;
+    part.roughness = roughness;
+    return part;
+}
+
+/* What such a part adds to the friction at Reynolds number 1e6 and rest, in a
+ * sheet whose form factor is 1.5. */
+static double added(double roughness)
+{
+    double skin = 7;
+    CHECK(cobalnis_skin_friction_coefficient(1e6, roughness, 0, &skin) == 0);
+    return (skin * 1.5) * 0.5;
+}
+
+/* A part's own roughness is handed back as it was given; absent, as absent. */
+static void own_roughness(void)
+{
+    double cells[COBALNIS_ROWS], x = 7;
+    cobalnis_sheet sheet = example(cells, COBALNIS_ROWS);
+    const double *friction = cobalnis_sheet_row(&sheet, COBALNIS_FRICTION, cells);
+    CHECK(cobalnis_sheet_set_column(&sheet, 0, 0, 1e6, cells, COBALNIS_ROWS, &x) == 0);
+    CHECK(cobalnis_sheet_insert(&sheet, 0, finished(1e-3), cells, COBALNIS_ROWS, &x) == 0);
+    CHECK(sheet.part[0].own_roughness == 1 && sheet.part[0].roughness == 1e-3);
+    CHECK(friction[0] == added(1e-3));
+
+    /* Where it has none of its own, its number is not looked at. */
+    cobalnis_part plain = finished(1.5);
+    plain.own_roughness = 0;
+    CHECK(cobalnis_sheet_insert(&sheet, 1, plain, cells, COBALNIS_ROWS, &x) == 0);
+    CHECK(sheet.part[1].own_roughness == 0 && cobalnis_bits(sheet.part[1].roughness) == 0);
+    CHECK(friction[0] == added(1e-3) + added(0) && added(0) != added(1e-3));
+
+    /* Any number but 0 makes it the part's own; -0 passes. */
+    cobalnis_part other = finished(-0.0);
+    other.own_roughness = UINT64_MAX;
+    CHECK(cobalnis_sheet_replace(&sheet, 0, other, cells, COBALNIS_ROWS, &x) == 0);
+    CHECK(sheet.part[0].own_roughness == 1);
+    CHECK(cobalnis_bits(sheet.part[0].roughness) == 0x8000000000000000u);
+    other = finished(1);
+    other.own_roughness = 2;
+    CHECK(cobalnis_sheet_replace(&sheet, 1, other, cells, COBALNIS_ROWS, &x) == 0);
+    CHECK(sheet.part[1].own_roughness == 1 && sheet.part[1].roughness == 1);
+    CHECK(friction[0] == added(0) + added(1));
+}
+
+/* Outside [0, 1]: refused in the part given and in a part held. */
+static void own_roughness_refused(void)
+{
+    static const double BAD[] = {1.5, NAN, -1};
+    double cells[COBALNIS_ROWS], kept[COBALNIS_ROWS], x = 7;
+    cobalnis_sheet sheet = example(cells, COBALNIS_ROWS);
+    CHECK(cobalnis_sheet_insert(&sheet, 0, FACE, cells, COBALNIS_ROWS, &x) == 0);
+    CHECK(cobalnis_sheet_insert(&sheet, 1, finished(1), cells, COBALNIS_ROWS, &x) == 0);
+    const cobalnis_sheet whole = sheet;
+    memcpy(kept, cells, sizeof cells);
+    for (size_t i = 0; i < sizeof BAD / sizeof BAD[0]; i++) {
+        const cobalnis_part bad = finished(BAD[i]);
+        CHECK(cobalnis_sheet_insert(&sheet, 0, bad, cells, COBALNIS_ROWS, &x) ==
+              COBALNIS_HOUSE_INTERVAL);
+        CHECK(cobalnis_sheet_replace(&sheet, 1, bad, cells, COBALNIS_ROWS, &x) ==
+              COBALNIS_HOUSE_INTERVAL);
+        CHECK(memcmp(&sheet, &whole, sizeof sheet) == 0);
+        sheet.part[1].roughness = BAD[i];
+        const cobalnis_sheet broken = sheet;
+        CHECK(cobalnis_sheet_remove(&sheet, 1, cells, COBALNIS_ROWS, &x) ==
+              COBALNIS_HOUSE_INTERVAL);
+        CHECK(cobalnis_sheet_set_column(&sheet, 0, 1, 1, cells, COBALNIS_ROWS, &x) ==
+              COBALNIS_HOUSE_INTERVAL);
+        CHECK(memcmp(&sheet, &broken, sizeof sheet) == 0);
+        CHECK(memcmp(cells, kept, sizeof cells) == 0);
+        sheet = whole;
+    }
 }
 
 /* The words' functions themselves, which the typed ones pass on to. */
@@ -119,7 +200,8 @@ static void cards(void)
     size_t next = 7;
     CHECK(cobalnis_sheet_read_settings(CARDS, 1, 0, &sheet, &next) == COBALNIS_ENDED);
     CHECK(cobalnis_sheet_read_settings(CARDS, sizeof CARDS, 34, &sheet, &next) == COBALNIS_FIELD);
-    CHECK(cobalnis_part_read((const uint8_t *)"\x40", 1, 0, &part, &next) == COBALNIS_RESERVED);
+    CHECK(cobalnis_part_read((const uint8_t *)"\x80", 1, 0, &part, &next) == COBALNIS_RESERVED);
+    CHECK(cobalnis_part_read((const uint8_t *)"\xc0", 1, 0, &part, &next) == COBALNIS_RESERVED);
     CHECK(cobalnis_part_read(CARDS, sizeof CARDS, sizeof CARDS, &part, &next) == COBALNIS_ENDED);
     CHECK(next == 7 && sheet.columns == 7 && part.length == 7);
     CHECK(cobalnis_sheet_read_settings(CARDS, sizeof CARDS, 0, &sheet, &next) == 0);
@@ -142,11 +224,34 @@ static void cards(void)
     CHECK(cobalnis_sheet_read_settings(CARDS, 0, 0, &sheet, &next) == COBALNIS_ENDED);
 }
 
+/* A card's own roughness comes after its wetted ratio; a card without one
+ * leaves it to the settings. */
+static void card_of_own_roughness(void)
+{
+    static const uint8_t bytes[] = {
+        0x60, 0, 0, 0, 0, 0, 0, 0xf0, 0x3f, 0, 0, 0, 0, 0, 0, 0xe0, 0x3f,
+        0x20, 0, 0, 0, 0, 0, 0, 0xf0, 0x3f,
+    };
+    cobalnis_part part = {.own_roughness = 7, .roughness = 7};
+    size_t next = 7;
+    CHECK(cobalnis_part_read(bytes, 1, 0, &part, &next) == COBALNIS_ENDED);
+    CHECK(cobalnis_part_read(bytes, 16, 0, &part, &next) == COBALNIS_ENDED);
+    CHECK(next == 7 && part.own_roughness == 7 && part.roughness == 7);
+    CHECK(cobalnis_part_read(bytes, sizeof bytes, 0, &part, &next) == 0 && next == 17);
+    CHECK(part.wetted_ratio == 1 && part.own_roughness == 1 && part.roughness == 0.5);
+    CHECK(cobalnis_part_read(bytes, sizeof bytes, next, &part, &next) == 0 && next == 26);
+    CHECK(part.wetted_ratio == 1 && part.own_roughness == 0);
+    CHECK(cobalnis_bits(part.roughness) == 0);
+}
+
 void sheets_and_cards(void)
 {
     sheet_calls();
     sheet_refusals();
     nan_cells();
+    own_roughness();
+    own_roughness_refused();
     raw_sheet();
     cards();
+    card_of_own_roughness();
 }

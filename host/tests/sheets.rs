@@ -3,6 +3,8 @@
 
 mod common;
 
+use cobalnis::formulas::skin_friction_coefficient;
+use cobalnis::words::{self, FIRST_PART, PART_WORDS};
 use cobalnis::{print, Column, Part, Quantity, Settings, Shape, Sheet, COLUMNS, PLACES, ROWS};
 
 use common::{domain, refusal, stream, INFINITY, NAN};
@@ -27,6 +29,7 @@ const FACE: Part = Part {
     aft_diameter: 1.0,
     joint_angle: 0.0,
     wetted_ratio: 0.0,
+    roughness: None,
 };
 
 #[test]
@@ -113,25 +116,111 @@ fn edits_refused() {
     assert_eq!((sheet.words(), sheet.cells()), (&words, &before[..]));
 }
 
-/// A body so short that its form factor overflows, with nothing wetted: the friction is a NaN.
+/// A body so short that its form factor overflows, and a part with nothing wetted: the friction is
+/// a NaN. Without parts it is +0.
 #[test]
 fn nan_cells_have_the_papers_bits() {
     let settings = Settings {
-        reference_diameter: 1.0,
-        roughness: 0.0,
         body_fineness: 1e-320,
-        columns: vec![Column {
-            mach: 0.0,
-            reynolds: 0.0,
-        }],
+        ..settings()
     };
     let mut cells = [-f64::NAN; ROWS + 1];
     let past = cells[ROWS].to_bits();
-    let sheet = Sheet::open(&settings, &mut cells).expect("a fineness above 0 is taken");
+    let mut sheet = Sheet::open(&settings, &mut cells).expect("a fineness above 0 is taken");
+    assert_eq!(sheet.friction()[0].to_bits(), 0);
+    assert_eq!(sheet.base()[0].to_bits(), 0);
+    sheet.push(&FACE).unwrap();
     assert_eq!(sheet.friction()[0].to_bits(), 0x7ff8_0000_0000_0000);
     assert_eq!(sheet.total()[0].to_bits(), 0x7ff8_0000_0000_0000);
-    assert_eq!(sheet.base()[0].to_bits(), 0);
     assert_eq!(sheet.cells()[ROWS].to_bits(), past);
+}
+
+/// A flat face of wetted ratio 0.5 and this roughness.
+fn finished(roughness: Option<f64>) -> Part {
+    Part {
+        wetted_ratio: 0.5,
+        roughness,
+        ..FACE
+    }
+}
+
+/// A polished nose on a rough tube: each part is handed back as it was given, and the friction is
+/// the parts' sum.
+#[test]
+fn roughness_of_its_own() {
+    let mut cells = [0.0; ROWS];
+    let mut sheet = Sheet::open(&settings(), &mut cells).unwrap();
+    let column = Column {
+        mach: 0.0,
+        reynolds: 1e6,
+    };
+    sheet.set_column(0, column).unwrap();
+    let added = |roughness| {
+        let skin = skin_friction_coefficient(1e6, roughness, 0.0).unwrap();
+        (skin * 1.5) * 0.5
+    };
+    let (nose, tube) = (finished(Some(1e-6)), finished(Some(1e-3)));
+    sheet.push(&nose).unwrap();
+    sheet.push(&tube).unwrap();
+    assert_eq!((sheet.part(0), sheet.part(1)), (Some(nose), Some(tube)));
+    assert_eq!(sheet.friction(), [added(1e-6) + added(1e-3)]);
+    sheet.replace(1, &finished(None)).unwrap();
+    assert_eq!(sheet.part(1), Some(finished(None)));
+    assert_eq!(sheet.words()[FIRST_PART + PART_WORDS + 6..][..2], [0, 0]);
+    assert_eq!(sheet.friction(), [added(1e-6) + added(0.0)]);
+    for end in [0.0, -0.0, 1.0] {
+        sheet.replace(0, &finished(Some(end))).unwrap();
+        let back = sheet.part(0).and_then(|part| part.roughness);
+        assert_eq!(back.map(f64::to_bits), Some(end.to_bits()));
+    }
+}
+
+/// Outside [0, 1] it is refused, and nothing is changed.
+#[test]
+fn roughness_of_its_own_refused() {
+    let mut cells = [0.0; ROWS];
+    let mut sheet = Sheet::open(&settings(), &mut cells).unwrap();
+    sheet.push(&finished(Some(1.0))).unwrap();
+    let words = *sheet.words();
+    let before = sheet.cells().to_vec();
+    for bad in [1.5, NAN, -1.0, 1.0f64.next_up(), INFINITY] {
+        assert_eq!(sheet.push(&finished(Some(bad))), Err(refusal(11)), "{bad}");
+        let replaced = sheet.replace(0, &finished(Some(bad)));
+        assert_eq!(replaced, Err(refusal(11)), "{bad}");
+        assert_eq!((sheet.words(), sheet.cells()), (&words, &before[..]));
+    }
+}
+
+/// By words: a flag of 0 leaves the part to the settings whatever the last word is, any other
+/// makes it the part's own, and a held part is tested as one given.
+#[test]
+fn roughness_by_words() {
+    let mut cells = [0.0; ROWS];
+    let mut sheet = Sheet::open(&settings(), &mut cells).unwrap();
+    sheet.push(&FACE).unwrap();
+    sheet.push(&finished(None)).unwrap();
+    let (whole, before) = (*sheet.words(), sheet.cells().to_vec());
+    let at = FIRST_PART + PART_WORDS + 6;
+    let held = |flag: u64, roughness: f64| {
+        let (mut sheet, mut cells) = (whole, before.clone());
+        sheet[at] = flag;
+        sheet[at + 1] = roughness.to_bits();
+        let given = sheet;
+        let (status, _) = words::set_column(&mut sheet, 0, 0.0, 0.0, &mut cells);
+        if status != 0 {
+            assert_eq!((sheet, &cells), (given, &before));
+        }
+        (status, [sheet[at], sheet[at + 1]])
+    };
+    for bad in [1.5, -1.0, NAN] {
+        assert_eq!(held(0, bad), (0, [0, 0]));
+        for flag in [1, 2, 1 << 63, u64::MAX] {
+            assert_eq!(held(flag, bad), (11, [flag, bad.to_bits()]));
+        }
+    }
+    for flag in [1, 2, 1 << 63, u64::MAX] {
+        assert_eq!(held(flag, 0.25), (0, [1, 0.25f64.to_bits()]));
+    }
 }
 
 #[test]
@@ -167,7 +256,9 @@ fn cards() {
     assert_eq!(Part::read(&bytes, next), Ok((FACE, 43)));
     assert_eq!(Part::read(&bytes, 43), Err(refusal(4)));
     assert_eq!(Part::read(&bytes, usize::MAX), Err(refusal(4)));
-    assert_eq!(Part::read(&[0x40], 0), Err(refusal(5)));
+    assert_eq!(Part::read(&[0x80], 0), Err(refusal(5)));
+    assert_eq!(Part::read(&[0xc0], 0), Err(refusal(5)));
+    assert_eq!(Part::read(&[0x40], 0), Err(refusal(4)));
     assert_eq!(Part::read(&[0x01, 0x06], 0), Err(refusal(5)));
     assert_eq!(Part::read(&[0x01, 0x01], 0), Err(refusal(6)));
     assert_eq!(Settings::read(&[], 0), Err(refusal(4)));
@@ -175,6 +266,20 @@ fn cards() {
     let mut many = bytes.clone();
     many[17] = 33;
     assert_eq!(Settings::read(&many, 0), Err(refusal(7)));
+}
+
+/// A card's own roughness comes after its wetted ratio, and the next card after it.
+#[test]
+fn cards_with_a_roughness() {
+    let (half, quarter) = (0.5f64.to_le_bytes(), 0.25f64.to_le_bytes());
+    let bytes = [&[0x60], &half[..], &quarter[..], &[0x20], &half[..]].concat();
+    let part = |roughness| Part {
+        aft_diameter: 0.0,
+        ..finished(roughness)
+    };
+    assert_eq!(Part::read(&bytes, 0), Ok((part(Some(0.25)), 17)));
+    assert_eq!(Part::read(&bytes, 17), Ok((part(None), 26)));
+    assert_eq!(Part::read(&bytes[..16], 0), Err(refusal(4)));
 }
 
 #[test]
