@@ -28,20 +28,7 @@ impl Arguments {
     /// A number of a house interval, its ends often; outside it, or NaN, one time in `bad`.
     pub fn house(&mut self, low: f64, high: f64, usual: f64, bad: u64) -> f64 {
         if self.one_in(bad) {
-            let outside = [
-                NANS[1],
-                f64::INFINITY,
-                f64::NEG_INFINITY,
-                high.next_up(),
-                if low == 0.0 {
-                    -f64::from_bits(1)
-                } else {
-                    low.next_down()
-                },
-                -1.0,
-                high + 1.0,
-            ];
-            return self.random.pick(&outside);
+            return self.outside(low, high);
         }
         match self.below(8) {
             0 => low,
@@ -51,6 +38,24 @@ impl Arguments {
             3 => self.random.between(low, high),
             _ => self.random.between(low, usual),
         }
+    }
+
+    /// A number that a house interval hasn't.
+    fn outside(&mut self, low: f64, high: f64) -> f64 {
+        let list = [
+            NANS[1],
+            f64::INFINITY,
+            f64::NEG_INFINITY,
+            high.next_up(),
+            if low == 0.0 {
+                -f64::from_bits(1)
+            } else {
+                low.next_down()
+            },
+            -1.0,
+            high + 1.0,
+        ];
+        self.random.pick(&list)
     }
 
     pub fn a_column(&mut self, bad: u64) -> Column {
@@ -92,11 +97,9 @@ impl Arguments {
         Column { mach, reynolds }
     }
 
-    /// A part. Its d is often one of a few numbers, so that parts are as wide as their neighbours;
-    /// its shape and angle are refused one time in `odd`.
-    pub fn a_part(&mut self, bad: u64, odd: u64) -> Part {
-        let number = self.random.bits() % 6;
-        let parameter = if self.one_in(odd) {
+    /// A shape's parameter, refused one time in `odd`.
+    fn a_parameter(&mut self, number: u64, odd: u64) -> f64 {
+        if self.one_in(odd) {
             let list = [
                 NANS[0],
                 -1.0,
@@ -106,31 +109,46 @@ impl Arguments {
                 f64::INFINITY,
                 f64::NEG_INFINITY,
             ];
-            self.random.pick(&list)
-        } else {
-            match number {
-                1 => {
-                    let list = [1.0, 1.2, 2.0, 1e300, 3.5];
-                    self.random.pick(&list)
-                }
-                5 => {
-                    let list = [0.0, 1.0 / 3.0, 0.2, 0.1];
-                    self.random.pick(&list)
-                }
-                _ => {
-                    let some = self.random.between(0.0, 1.0);
-                    self.random.pick(&[0.0, 0.25, 0.5, 0.75, 1.0, some, -0.0])
-                }
+            return self.random.pick(&list);
+        }
+        match number {
+            1 => self.random.pick(&[1.0, 1.2, 2.0, 1e300, 3.5]),
+            5 => self.random.pick(&[0.0, 1.0 / 3.0, 0.2, 0.1]),
+            _ => {
+                let some = self.random.between(0.0, 1.0);
+                self.random.pick(&[0.0, 0.25, 0.5, 0.75, 1.0, some, -0.0])
             }
-        };
-        let joint_angle = if self.one_in(odd) {
+        }
+    }
+
+    /// A joint angle, refused one time in `odd`.
+    fn an_angle(&mut self, odd: u64) -> f64 {
+        if self.one_in(odd) {
             let list = [NANS[6], 2.0, -0.1, f64::INFINITY];
-            self.random.pick(&list)
-        } else {
-            let some = self.random.between(0.0, 1.5);
-            self.random
-                .pick(&[0.0, some, some, 0.3, std::f64::consts::FRAC_PI_2])
-        };
+            return self.random.pick(&list);
+        }
+        let some = self.random.between(0.0, 1.5);
+        self.random
+            .pick(&[0.0, some, some, 0.3, std::f64::consts::FRAC_PI_2])
+    }
+
+    /// A roughness of a part's own, outside its interval one time in `bad`, or none three times in
+    /// eight. Most are from 1e-6 to 1e-2, of which some limit the friction and some don't.
+    pub fn own_roughness(&mut self, bad: u64) -> Option<f64> {
+        match self.below(8) {
+            0..=2 => None,
+            3 | 4 => Some(self.house(0.0, 1.0, 1e-2, bad)),
+            _ if self.one_in(bad) => Some(self.outside(0.0, 1.0)),
+            _ => Some(self.random.scaled(1e-6, 1e-2)),
+        }
+    }
+
+    /// A part. Its d is often one of a few numbers, so that parts are as wide as their neighbours;
+    /// its shape and angle are refused one time in `odd`.
+    pub fn a_part(&mut self, bad: u64, odd: u64) -> Part {
+        let number = self.random.bits() % 6;
+        let parameter = self.a_parameter(number, odd);
+        let joint_angle = self.an_angle(odd);
         let aft_diameter = if self.one_in(2) {
             self.random
                 .pick(&[0.0, 0.1, 0.5, 1.0, 2.0, 100.0, 0.1, 0.1, 0.5])
@@ -143,6 +161,7 @@ impl Arguments {
             aft_diameter,
             joint_angle,
             wetted_ratio: self.house(0.0, 10000.0, 50.0, bad),
+            roughness: self.own_roughness(bad),
         }
     }
 

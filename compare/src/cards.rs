@@ -100,10 +100,11 @@ fn settings_card(bytes: &mut Bytes) -> Result<Settings, u8> {
     })
 }
 
-/// "Part: 0 shape byte, 1 shape parameter, 2 L, 3 d, 4 joint angle, 5 w."
+/// "Part: 0 shape byte, 1 shape parameter, 2 L, 3 d, 4 joint angle, 5 w", 6 its own roughness, and
+/// "only a part's bit 7 is then reserved".
 fn part_card(bytes: &mut Bytes) -> Result<Part, u8> {
     let map = bytes.byte()?;
-    if map >= 1 << 6 {
+    if map >= 1 << 7 {
         return Err(RESERVED);
     }
     // "An absent shape is 0."
@@ -120,12 +121,19 @@ fn part_card(bytes: &mut Bytes) -> Result<Part, u8> {
     let aft_diameter = bytes.float_if(stands(map, 3))?;
     let joint_angle = bytes.float_if(stands(map, 4))?;
     let wetted_ratio = bytes.float_if(stands(map, 5))?;
+    // "Absent, it is the settings' one": no number stands for it.
+    let roughness = if stands(map, 6) {
+        Some(bytes.float()?)
+    } else {
+        None
+    };
     Ok(Part {
         shape: shape_of(u64::from(shape), parameter),
         length,
         aft_diameter,
         joint_angle,
         wetted_ratio,
+        roughness,
     })
 }
 

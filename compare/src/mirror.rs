@@ -170,19 +170,22 @@ pub fn part_of(words: &[u64]) -> Part {
         aft_diameter: float(3),
         joint_angle: float(4),
         wetted_ratio: float(5),
+        roughness: (words[6] != 0).then(|| float(7)),
     }
 }
 
-/// A part's words.
-pub fn part_words(part: &Part) -> PartWords {
+/// A part's words, with a bit function for the floats.
+pub fn part_words(part: &Part, bits: impl Fn(f64) -> u64) -> PartWords {
     let (number, parameter) = of_shape(part.shape);
     [
         number,
-        answer_bits(parameter),
-        answer_bits(part.length),
-        answer_bits(part.aft_diameter),
-        answer_bits(part.joint_angle),
-        answer_bits(part.wetted_ratio),
+        bits(parameter),
+        bits(part.length),
+        bits(part.aft_diameter),
+        bits(part.joint_angle),
+        bits(part.wetted_ratio),
+        u64::from(part.roughness.is_some()),
+        part.roughness.map_or(0, bits),
     ]
 }
 
@@ -222,7 +225,7 @@ fn put_sheet(sheet: &Sheet, words: &mut SheetWords) {
     words[PARTS_AT] = sheet.design.count as u64;
     let places = words[FIRST_PART..].chunks_exact_mut(PART_WORDS);
     for (place, part) in places.zip(&sheet.design.parts) {
-        place.copy_from_slice(&part_words(part));
+        place.copy_from_slice(&part_words(part, answer_bits));
     }
 }
 
@@ -331,7 +334,7 @@ pub fn read_settings(bytes: &[u8], at: usize, words: &mut SheetWords) -> (u32, u
 pub fn read_part(bytes: &[u8], at: usize, words: &mut PartWords) -> (u32, usize) {
     match cards::read_part(bytes, at) {
         Ok((part, next)) => {
-            *words = part_words(&part);
+            *words = part_words(&part, answer_bits);
             (0, next)
         }
         Err(number) => (u32::from(number), 0),

@@ -2,8 +2,9 @@
 //! functions (with the fixed steps): every call recomputes what it writes, row by row, in the order
 //! of docs/REFERENCE.md.
 //!
-//! It is written from the project's scope alone, which docs/REFERENCE.md tells. A sheet may be any
-//! sheet at all, so the counts stand beside arrays that have room for what a sheet can have.
+//! It is written from the project's scope and requests alone, which docs/REFERENCE.md tells. A sheet
+//! may be any sheet at all, so the counts stand beside arrays that have room for what a sheet can
+//! have.
 
 use crate::original_fixed::{
     base_drag_coefficient, boattail_factor, body_friction_form_factor, check_dimension,
@@ -42,6 +43,8 @@ pub struct Part {
     pub aft_diameter: f64,
     pub joint_angle: f64,
     pub wetted_ratio: f64,
+    /// Its own; none: the settings' roughness.
+    pub roughness: Option<f64>,
 }
 
 #[derive(Debug, Clone, Copy)]
@@ -63,6 +66,7 @@ pub const NO_PART: Part = Part {
     aft_diameter: 0.0,
     joint_angle: 0.0,
     wetted_ratio: 0.0,
+    roughness: None,
 };
 
 /// A call that is refused, as a list writes it.
@@ -128,15 +132,16 @@ fn test_settings(settings: &Settings, cell_count: usize) -> Result<(), Refusal> 
     Ok(())
 }
 
-/// "11 for L, d, w".
+/// "11 for L, d, w", and "checked after w" for a roughness of its own.
 fn test_part(part: &Part) -> Result<(), Refusal> {
     house(0.0, part.length, 100.0)?;
     house(0.0, part.aft_diameter, 100.0)?;
-    house(0.0, part.wetted_ratio, 10000.0)
+    house(0.0, part.wetted_ratio, 10000.0)?;
+    part.roughness.map_or(Ok(()), |own| house(0.0, own, 1.0))
 }
 
 /// "Edits and set column first test the sheet given: its settings as at open (10 last), 9 for a
-/// count above 16, 11 for held L, d, w by place."
+/// count above 16, 11 for held L, d, w by place", and for a held roughness after w.
 fn test_sheet(sheet: &Sheet, cell_count: usize) -> Result<(), Refusal> {
     test_settings(&sheet.settings, cell_count)?;
     if sheet.design.count > PLACES {
@@ -188,15 +193,20 @@ fn place_row(
     }
 }
 
-/// (skin friction × form factor) × the sum of w from +0 by place.
+/// "A sum by place from +0 of (skin friction at that part's roughness × form factor) × w." What is
+/// to be multiplied with w at the settings' roughness is worked out once.
 fn friction(settings: &Settings, design: &Design, column: Column) -> f64 {
-    let mut wetted = 0.0;
+    let form = body_friction_form_factor(settings.body_fineness).expect("tested");
+    let at = |roughness: f64| {
+        let skin = skin_friction_coefficient(column.reynolds, roughness, column.mach);
+        skin.expect("tested") * form
+    };
+    let of_settings = at(settings.roughness);
+    let mut sum = 0.0;
     for part in design.parts() {
-        wetted += part.wetted_ratio;
+        sum += part.roughness.map_or(of_settings, at) * part.wetted_ratio;
     }
-    let skin = skin_friction_coefficient(column.reynolds, settings.roughness, column.mach);
-    let form = body_friction_form_factor(settings.body_fineness);
-    (skin.expect("tested") * form.expect("tested")) * wetted
+    sum
 }
 
 /// Base drag at M × ((last d × last d)/(D×D)), last d being 0 without parts.

@@ -101,13 +101,7 @@ impl Streams {
         let diameter = self.or_any(60, diameter, &[0.001, 100.0]);
         push(stream, diameter);
         if rough {
-            let roughness = match self.below(4) {
-                0 => self.random.pick(&[0.0, -0.0, 1.0]),
-                1 => self.random.between(0.0, 1.0),
-                _ => self.random.scaled(1e-9, 1e-2),
-            };
-            let roughness = self.or_any(60, roughness, &[0.0, 1.0]);
-            push(stream, roughness);
+            self.roughness(stream, 60);
         }
         let fineness = if self.once_in(4) {
             self.random.scaled(1e-3, 1e6)
@@ -127,6 +121,17 @@ impl Streams {
                 self.column(stream);
             }
         }
+    }
+
+    /// A roughness, the settings' or a part's own; any number once in `times`.
+    fn roughness(&mut self, stream: &mut Vec<u8>, times: usize) {
+        let roughness = match self.below(4) {
+            0 => self.random.pick(&[0.0, -0.0, 1.0]),
+            1 => self.random.between(0.0, 1.0),
+            _ => self.random.scaled(1e-9, 1e-2),
+        };
+        let roughness = self.or_any(times, roughness, &[0.0, 1.0]);
+        push(stream, roughness);
     }
 
     fn column(&mut self, stream: &mut Vec<u8>) {
@@ -168,9 +173,9 @@ impl Streams {
         let has_parameter = [1, 3, 4, 5].contains(&shape);
         let mut map = u8::from(shape != 0 || self.once_in(2));
         map |= u8::from(has_parameter) << 1;
-        for bit in 2..6 {
-            // A diameter is left out less often: it would end in a point.
-            let seldom = if bit == 3 { 12 } else { 5 };
+        for bit in 2..7 {
+            // A diameter is left out less often, since it would end in a point, a roughness more.
+            let seldom = [5, 12, 5, 5, 3][bit - 2];
             map |= u8::from(!self.once_in(seldom)) << bit;
         }
         stream.push(map);
@@ -178,62 +183,86 @@ impl Streams {
             stream.push(shape);
         }
         if has_parameter {
-            let third = 1.0 / 3.0;
-            let (low, high) = match shape {
-                1 => (1.0, 4.0),
-                5 => (0.0, third),
-                _ => (0.0, 1.0),
-            };
-            let parameter = match self.below(4) {
-                0 => self.random.pick(&[low, high]),
-                1 if shape == 3 => self.random.pick(&[0.25, 0.5, 0.75, 1.0]),
-                1 if shape == 4 => self.random.pick(&[0.5, 0.75, 1.0]),
-                _ => self.random.between(low, high),
-            };
-            let parameter = self.or_any(40, parameter, &[low, high]);
-            push(stream, parameter);
+            self.parameter(stream, shape);
         }
         if map >> 2 & 1 != 0 {
-            let length = match self.below(6) {
-                0 => self.random.pick(&[0.0, -0.0, 1.0, 3.0, 100.0]),
-                1 => self.random.scaled(1e-6, 100.0),
-                _ => self.random.between(0.0, 4.0),
-            };
-            let length = self.or_any(200, length, &[0.0, 100.0]);
-            push(stream, length);
+            self.length(stream);
         }
         let mut aft = 0.0;
         if map >> 3 & 1 != 0 {
-            aft = match self.below(8) {
-                0 | 1 => fore,
-                2 => self.random.pick(&[0.0, -0.0, 0.5, 1.0, 1.5, 100.0]),
-                3 => self.random.scaled(1e-6, 100.0),
-                4 => self.random.pick(&around(fore)).abs(),
-                _ => self.random.between(0.0, 2.0),
-            };
-            aft = self.or_any(200, aft, &[0.0, 100.0]);
-            push(stream, aft);
+            aft = self.aft_diameter(stream, fore);
         }
         if map >> 4 & 1 != 0 {
-            let right = f64::from_bits(0x3ff9_21fb_5444_2d18);
-            let angle = match self.below(6) {
-                0 => self.random.pick(&[0.0, -0.0, right]),
-                1 => self.random.scaled(1e-9, right),
-                _ => self.random.between(0.0, right),
-            };
-            let angle = self.or_any(150, angle, &[0.0, right]);
-            push(stream, angle);
+            self.joint_angle(stream);
         }
         if map >> 5 & 1 != 0 {
-            let wetted = match self.below(6) {
-                0 => self.random.pick(&[0.0, -0.0, 1.0, 10000.0]),
-                1 => self.random.scaled(1e-9, 10000.0),
-                _ => self.random.between(0.0, 30.0),
-            };
-            let wetted = self.or_any(200, wetted, &[0.0, 10000.0]);
-            push(stream, wetted);
+            self.wetted_ratio(stream);
+        }
+        if map >> 6 & 1 != 0 {
+            self.roughness(stream, 200);
         }
         aft
+    }
+
+    fn parameter(&mut self, stream: &mut Vec<u8>, shape: u8) {
+        let third = 1.0 / 3.0;
+        let (low, high) = match shape {
+            1 => (1.0, 4.0),
+            5 => (0.0, third),
+            _ => (0.0, 1.0),
+        };
+        let parameter = match self.below(4) {
+            0 => self.random.pick(&[low, high]),
+            1 if shape == 3 => self.random.pick(&[0.25, 0.5, 0.75, 1.0]),
+            1 if shape == 4 => self.random.pick(&[0.5, 0.75, 1.0]),
+            _ => self.random.between(low, high),
+        };
+        let parameter = self.or_any(40, parameter, &[low, high]);
+        push(stream, parameter);
+    }
+
+    fn length(&mut self, stream: &mut Vec<u8>) {
+        let length = match self.below(6) {
+            0 => self.random.pick(&[0.0, -0.0, 1.0, 3.0, 100.0]),
+            1 => self.random.scaled(1e-6, 100.0),
+            _ => self.random.between(0.0, 4.0),
+        };
+        let length = self.or_any(200, length, &[0.0, 100.0]);
+        push(stream, length);
+    }
+
+    fn aft_diameter(&mut self, stream: &mut Vec<u8>, fore: f64) -> f64 {
+        let aft = match self.below(8) {
+            0 | 1 => fore,
+            2 => self.random.pick(&[0.0, -0.0, 0.5, 1.0, 1.5, 100.0]),
+            3 => self.random.scaled(1e-6, 100.0),
+            4 => self.random.pick(&around(fore)).abs(),
+            _ => self.random.between(0.0, 2.0),
+        };
+        let aft = self.or_any(200, aft, &[0.0, 100.0]);
+        push(stream, aft);
+        aft
+    }
+
+    fn joint_angle(&mut self, stream: &mut Vec<u8>) {
+        let right = f64::from_bits(0x3ff9_21fb_5444_2d18);
+        let angle = match self.below(6) {
+            0 => self.random.pick(&[0.0, -0.0, right]),
+            1 => self.random.scaled(1e-9, right),
+            _ => self.random.between(0.0, right),
+        };
+        let angle = self.or_any(150, angle, &[0.0, right]);
+        push(stream, angle);
+    }
+
+    fn wetted_ratio(&mut self, stream: &mut Vec<u8>) {
+        let wetted = match self.below(6) {
+            0 => self.random.pick(&[0.0, -0.0, 1.0, 10000.0]),
+            1 => self.random.scaled(1e-9, 10000.0),
+            _ => self.random.between(0.0, 30.0),
+        };
+        let wetted = self.or_any(200, wetted, &[0.0, 10000.0]);
+        push(stream, wetted);
     }
 
     /// A stack with one to three damages.
@@ -285,7 +314,7 @@ impl Streams {
                 stream.truncate(ends[self.below(ends.len())]);
                 let length = 1 + self.below(60);
                 let mut junk = self.junk(length);
-                junk[0] &= 0x3f;
+                junk[0] &= 0x7f;
                 if length > 1 {
                     junk[1] %= 7;
                 }
@@ -303,7 +332,7 @@ impl Streams {
                 };
                 stream.extend(more);
             }
-            _ => stream.push(self.random.bits() as u8 & 0x3f),
+            _ => stream.push(self.random.bits() as u8 & 0x7f),
         }
     }
 }

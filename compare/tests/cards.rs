@@ -81,8 +81,8 @@ fn one_byte() {
 #[test]
 fn bytes_that_end() {
     assert_eq!(text("0d"), refused(4, 0));
-    let whole = bytes(&format!("{OPEN} 3f 01 one one one one one 08 one"));
-    let borders = [34, 76, 85];
+    let whole = bytes(&format!("{OPEN} 7f 01 one one one one one one 08 one"));
+    let borders = [34, 84, 93];
     assert_eq!(whole.len(), borders[2]);
     for end in 1..=whole.len() {
         let (text, number) = printed(&whole[..end]);
@@ -101,9 +101,10 @@ fn reserved() {
     for map in ["10", "20", "40", "80", "1d", "ff"] {
         assert_eq!(text(map), refused(5, 0), "{map}");
     }
-    for map in ["40", "80", "c2", "ff"] {
+    for map in ["80", "82", "c0", "ff"] {
         assert_eq!(text(&format!("{OPEN}{map}")), refused(5, 1), "{map}");
     }
+    assert_eq!(text(&format!("{OPEN}40")), refused(4, 1));
     for card in ["01 06", "03 06", "03 ff", "01 80"] {
         assert_eq!(text(&format!("{OPEN}{card}")), refused(5, 1), "{card}");
         assert_eq!(text(&format!("{OPEN}00 {card}")), refused(5, 2), "{card}");
@@ -118,7 +119,7 @@ fn missing_and_barred() {
         assert_eq!(text(map), refused(6, 0), "{map}");
     }
     for card in [
-        "02", "3e", "03 00", "03 02", "01 01", "01 03", "01 04", "01 05",
+        "02", "7e", "03 00", "03 02", "01 01", "01 03", "01 04", "01 05",
     ] {
         assert_eq!(text(&format!("{OPEN}{card}")), refused(6, 1), "{card}");
         assert_eq!(
@@ -182,6 +183,11 @@ fn refusals_of_the_calls() {
         text(&format!("{OPEN} 04 {} ff", float(101.0))),
         refused(11, 1)
     );
+    for own in [1.5, -1.0, f64::NAN] {
+        let card = format!("40 {} ff", float(own));
+        assert_eq!(text(&format!("{OPEN}{card}")), refused(11, 1), "{own}");
+        assert_eq!(text(&format!("{OPEN}00 {card}")), refused(11, 2), "{own}");
+    }
     let sixteen = "00".repeat(16);
     assert_eq!(text(&format!("{OPEN}{sixteen} 00")), refused(9, 17));
     assert_eq!(text(&format!("{OPEN}{sixteen} 00 ff")), refused(9, 17));
@@ -190,6 +196,27 @@ fn refusals_of_the_calls() {
     assert_eq!(text(&format!("{OPEN}{sixteen} 02")), refused(6, 17));
     assert_eq!(text(&format!("{OPEN}{sixteen} 04 00")), refused(4, 17));
     assert_eq!(text(&format!("{OPEN}{sixteen} 04 {nan}")), refused(9, 17));
+}
+
+/// Bit 6: a roughness of the part's own, whose bytes come after w's; without it the part has none,
+/// which is not 0.
+#[test]
+fn roughness_of_its_own() {
+    let card = format!("60 {} {} 00", float(12.5), float(0.25));
+    let (part, next) = read_part(&bytes(&card), 0).expect("accepted");
+    assert_eq!((part.wetted_ratio, part.roughness), (12.5, Some(0.25)));
+    let (part, end) = read_part(&bytes(&card), next).expect("accepted");
+    assert_eq!((part.roughness, next, end), (None, 17, 18));
+    for own in [0.0, -0.0, f64::NAN] {
+        let (part, next) = read_part(&bytes(&format!("40 {}", float(own))), 0).expect("accepted");
+        let read = part.roughness.map(f64::to_bits);
+        assert_eq!((read, next), (Some(own.to_bits()), 9));
+    }
+    // In a rough sheet at R = 10^6 a part without one and a smooth one have other friction.
+    let open = format!("0f one {} one 01 zero {} ", float(0.01), float(1e6));
+    let plain = text(&format!("{open} 20 one"));
+    assert_eq!(plain, text(&format!("{open} 60 one {}", float(0.01))));
+    assert_ne!(plain, text(&format!("{open} 60 one zero")));
 }
 
 /// C = 0, by a count of 0 or without bit 3: names alone, and curves are built all the same.

@@ -1,7 +1,8 @@
-//! The model of the sheet (docs/REFERENCE.md, Sheet): the example of docs/REFERENCE.md, the
-//! refusals of its table, and that edits leave the rows that a build from nothing gives.
+//! The model of the sheet (docs/REFERENCE.md, Sheet): the example of docs/REFERENCE.md, friction by
+//! hand, the refusals of its table, and that edits leave the rows that a build from nothing gives.
 
 use compare::answer_bits;
+use compare::fixed::{ln, powf};
 use compare::inputs::Random;
 use compare::model::*;
 use compare::original_fixed::NoseShape;
@@ -59,6 +60,129 @@ fn the_papers_sheet() {
     assert!(cells[ROWS..].iter().all(|x| x.is_nan()));
 }
 
+/// A part of this w and roughness.
+fn finished(wetted_ratio: f64, roughness: Option<f64>) -> Part {
+    Part {
+        wetted_ratio,
+        roughness,
+        ..part(0.1)
+    }
+}
+
+/// The friction cells of these parts in a sheet whose roughness is 0.01 and whose B is 12.
+fn friction_cells(columns: &[Column], parts: &[Part]) -> Vec<u64> {
+    let settings = Settings {
+        roughness: 0.01,
+        body_fineness: 12.0,
+        ..settings(columns)
+    };
+    let mut cells = vec![f64::NAN; ROWS * columns.len()];
+    let (_, mut sheet) = open(&settings, &mut cells);
+    for (place, part) in parts.iter().enumerate() {
+        let (answer, after) = insert(&sheet, place, part, &mut cells);
+        assert_eq!(answer.refusal, 0);
+        sheet = after;
+    }
+    bits(&cells[FRICTION * columns.len()..BASE * columns.len()])
+}
+
+/// A polished nose on a rough tube, by the formulas written out: below R = 10000 no roughness
+/// counts; above, the nose's doesn't limit the friction and the tube's does.
+#[test]
+fn polished_nose_on_a_rough_tube() {
+    let columns = [9000.0, 1e6].map(|reynolds| Column {
+        mach: 0.5,
+        reynolds,
+    });
+    let parts = [finished(8.0, Some(1e-6)), finished(40.0, Some(1e-3))];
+    let form = 1.0 + 0.5 / 12.0;
+    let slow: f64 = 0.0148 * (1.0 - 0.1 * (0.5 * 0.5));
+    let below = ((0.0 + (slow * form) * 8.0) + (slow * form) * 40.0).to_bits();
+    let a = 1.5 * ln(1e6) - 5.6;
+    let polished = (1.0 / (a * a)) * (1.0 - 0.1 * (0.5 * 0.5));
+    let rough = (0.032 * powf(1e-3, 0.2)) * (1.0 - 0.1 * (0.5 * 0.5));
+    let above = ((0.0 + (polished * form) * 8.0) + (rough * form) * 40.0).to_bits();
+    assert!(rough > polished);
+    assert!(1e6 < 51.0 * powf(1e-6, -1.039) && 51.0 * powf(1e-3, -1.039) < 1e6);
+    assert_eq!(friction_cells(&columns, &parts), [below, above]);
+}
+
+/// Absent it is the settings' roughness, which limits, and not 0, which wouldn't.
+#[test]
+fn absent_is_the_settings_roughness() {
+    let columns = [Column {
+        mach: 0.5,
+        reynolds: 1e6,
+    }];
+    let rough = (0.032 * powf(0.01, 0.2)) * (1.0 - 0.1 * (0.5 * 0.5));
+    let cell = ((rough * (1.0 + 0.5 / 12.0)) * 8.0).to_bits();
+    let friction = |roughness| friction_cells(&columns, &[finished(8.0, roughness)]);
+    assert_eq!(friction(None), [cell]);
+    assert_eq!(friction(Some(0.01)), [cell]);
+    assert_ne!(friction(Some(0.0)), [cell]);
+    assert_eq!(friction(Some(-0.0)), friction(Some(0.0)));
+}
+
+/// Each part's share is rounded for itself, and the shares are added by place: the cell isn't the
+/// product with the sum of w, and not the sum from the other end.
+#[test]
+fn friction_is_a_sum_by_place() {
+    let columns = [REST];
+    let w = [8.0, 40.0, 1.93];
+    let product = 0.0148 * (1.0 + 0.5 / 12.0);
+    let [a, b, c] = w.map(|w| product * w);
+    let cell = friction_cells(&columns, &w.map(|w| finished(w, None)));
+    assert_eq!(cell, [((a + b) + c).to_bits()]);
+    assert_ne!(cell, [(product * ((w[0] + w[1]) + w[2])).to_bits()]);
+    assert_ne!(cell, [((c + b) + a).to_bits()]);
+    assert_eq!(friction_cells(&columns, &[]), [0]);
+}
+
+/// Without parts friction is +0, even where the form factor overflows; a part with nothing wetted
+/// makes it a NaN then, and -0 wetted adds nothing.
+#[test]
+fn friction_without_parts() {
+    let mut cells = [f64::NAN; ROWS];
+    let short = Settings {
+        body_fineness: 1e-320,
+        ..settings(&[REST])
+    };
+    let (_, sheet) = open(&short, &mut cells);
+    assert_eq!(cells[FRICTION].to_bits(), 0);
+    insert(&sheet, 0, &part(1.0), &mut cells);
+    assert!(cells[FRICTION].is_nan() && cells[TOTAL].is_nan());
+    assert_eq!(friction_cells(&[REST], &[finished(-0.0, None)]), [0]);
+}
+
+/// 11 for a roughness of a part's own outside [0, 1], in the part given and in a part held, at any
+/// place; nothing is changed.
+#[test]
+fn roughness_refused() {
+    let mut cells = [0.0; ROWS];
+    let (_, mut sheet) = open(&settings(&[REST]), &mut cells);
+    for place in 0..3 {
+        sheet = insert(&sheet, place, &finished(1.0, Some(1.0)), &mut cells).1;
+    }
+    let before = bits(&cells);
+    for own in [1.5, -1.0, f64::NAN, 1.0f64.next_up(), -f64::from_bits(1)] {
+        let bad = finished(1.0, Some(own));
+        assert_eq!(insert(&sheet, 3, &bad, &mut cells).0.refusal, 11);
+        assert_eq!(replace(&sheet, 1, &bad, &mut cells).0.refusal, 11);
+        for place in 0..3 {
+            let mut held = sheet;
+            held.design.parts[place] = bad;
+            assert_eq!(insert(&held, 0, &part(0.1), &mut cells).0.refusal, 11);
+            assert_eq!(replace(&held, place, &part(0.1), &mut cells).0.refusal, 11);
+            assert_eq!(remove(&held, place, &mut cells).0.refusal, 11);
+            assert_eq!(set_column(&held, 0, REST, &mut cells).0.refusal, 11);
+        }
+        assert_eq!(bits(&cells), before);
+    }
+    // Past the count it is nobody's.
+    sheet.design.parts[3] = finished(1.0, Some(1.5));
+    assert_eq!(remove(&sheet, 0, &mut cells).0.refusal, 0);
+}
+
 #[test]
 fn refusals_of_the_table() {
     let number = |columns: usize, cell_count: usize| {
@@ -99,7 +223,11 @@ fn edits_leave_the_build() {
     let mut accepted = 0;
     for columns in 0..6 {
         let mut cells = vec![f64::NAN; ROWS * columns];
-        let (_, mut sheet) = open(&settings(&vec![REST; columns]), &mut cells);
+        let given = Settings {
+            roughness: 1e-4,
+            ..settings(&vec![REST; columns])
+        };
+        let (_, mut sheet) = open(&given, &mut cells);
         for _ in 0..400 {
             let place = (random.bits() % 17) as usize;
             let new = Part {
@@ -110,6 +238,7 @@ fn edits_leave_the_build() {
                 aft_diameter: random.pick(&[0.0, 0.5, 1.0, 1.5]),
                 joint_angle: random.between(0.0, 1.6),
                 wetted_ratio: random.between(0.0, 20.0),
+                roughness: [None, Some(random.scaled(1e-6, 1e-2))][(random.bits() % 2) as usize],
             };
             let column = Column {
                 mach: random.between(0.0, 3.0),

@@ -1,5 +1,6 @@
-//! A short run of the port against the original: nothing disagrees, and what is asked meets every
-//! refusal that a function can give. The long run is the program `side_by_side`.
+//! A short run of the port against the original: nothing disagrees, what is asked meets every
+//! refusal that a function can give, and at least half of the parts have a roughness of their own.
+//! The long run is the program `side_by_side`.
 
 use compare::inputs::Random;
 use compare::side::tally::Row;
@@ -31,6 +32,13 @@ fn all_formulas() {
     agrees(&formulas::takes_cone_formula(COUNT, random), &[0]);
     agrees(&formulas::shape_constants(), &[0]);
     agrees(&formulas::classify(COUNT, random), &[0]);
+}
+
+/// At least half of a row's parts had a roughness of their own, and not all.
+fn mostly_own(row: &Row) {
+    let (parts, own) = row.parts();
+    assert!(parts > 1000, "{} had {parts} parts", row.name());
+    assert!(parts <= 2 * own && own < parts, "{}: {own}", row.name());
 }
 
 #[test]
@@ -69,6 +77,9 @@ fn all_calls() {
             _ => &[0, 1, 5, 7, 8, 9, 10, 11],
         };
         agrees(&row, met);
+        if let "sheet: insert" | "sheet: replace" = row.name() {
+            mostly_own(&row);
+        }
     }
 }
 
@@ -81,6 +92,9 @@ fn all_cards() {
             _ => &[0, 4, 5, 6],
         };
         agrees(&row, met);
+        if row.name() == "cards: read_part" {
+            mostly_own(&row);
+        }
     }
 }
 

@@ -64,5 +64,9 @@ fn part(stream: &[u8], at: usize, row: &mut Row) -> Option<usize> {
     row.note(model.0, port == model && ours == theirs, || {
         format!("{} from {at}: port {port:?}, model {model:?}", hex(stream))
     });
-    (model.0 == 0).then_some(model.1)
+    if model.0 != 0 {
+        return None;
+    }
+    row.note_part(&theirs);
+    Some(model.1)
 }

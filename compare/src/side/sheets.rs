@@ -11,7 +11,7 @@ use crate::arguments::Arguments;
 use crate::inputs::NANS;
 use crate::mirror;
 use crate::model::{COLUMNS, PLACES, ROWS};
-use crate::{answer_bits, cards::of_shape, model::Part};
+use crate::{answer_bits, model::Part};
 
 const BUFFER: usize = ROWS * COLUMNS + 8;
 
@@ -92,19 +92,7 @@ pub fn sheets(count: u64, seed: u64) -> Vec<Row> {
 
 /// A part's words, NaNs as they come.
 fn words_of(part: &Part) -> PartWords {
-    let (number, parameter) = of_shape(part.shape);
-    let floats = [
-        parameter,
-        part.length,
-        part.aft_diameter,
-        part.joint_angle,
-        part.wetted_ratio,
-    ];
-    let mut words = [number; PART_WORDS];
-    for (word, x) in words[1..].iter_mut().zip(floats) {
-        *word = x.to_bits();
-    }
-    words
+    mirror::part_words(part, f64::to_bits)
 }
 
 /// What a sheet's words say: those of columns and parts past the counts are nobody's.
@@ -143,11 +131,15 @@ impl Play {
             } else {
                 self.sheet == given && same_bits(&self.cells, &before)
             };
-        self.rows[call.row()].note(model.0, agree, || {
+        let row = &mut self.rows[call.row()];
+        row.note(model.0, agree, || {
             format!(
                 "{call:x?}, {cell_count} cells, port {port:x?}, model {model:x?}, on {given:x?}"
             )
         });
+        if let Call::Insert(_, part) | Call::Replace(_, part) = call {
+            row.note_part(&part);
+        }
         if !agree {
             // Go on from what the model has, so that one slip isn't told twice.
             (self.sheet, self.cells) = (theirs, their_cells);
@@ -225,17 +217,28 @@ impl Play {
         self.call(Call::Open, cell_count);
     }
 
-    /// A part's words; the shape's number is none of the six seldom.
+    /// A part's words; the shape's number is none of the six seldom. That it has a roughness of its
+    /// own may be said by any number but 0, and where it has none the last word may be any.
     fn part(&mut self) -> PartWords {
         let mut words = words_of(&self.args.a_part(40, 40));
         if self.args.one_in(150) {
             words[0] = [6, 7, 255, 1 << 32, u64::MAX][self.args.below(5)];
         }
         if self.args.one_in(100) {
-            let at = 1 + self.args.below(5);
+            let at = 1 + self.args.below(PART_WORDS - 1);
             words[at] = self.args.random.bits();
         }
+        if self.args.one_in(4) {
+            let other = if words[6] == 0 { 7 } else { 6 };
+            words[other] = self.not_one();
+        }
         words
+    }
+
+    /// A number above 1.
+    fn not_one(&mut self) -> u64 {
+        let any = self.args.random.bits() | 2;
+        [2, 255, 1 << 32, 1 << 63, u64::MAX, any][self.args.below(6)]
     }
 
     fn a_call(&mut self) -> Call {
@@ -265,7 +268,7 @@ impl Play {
             let any = self.args.random.bits();
             let columns = self.columns().max(1);
             let place = FIRST_PART + PART_WORDS * self.args.below(self.parts().max(1));
-            match self.args.below(10) {
+            match self.args.below(12) {
                 0 => self.sheet[self.args.below(SHEET_WORDS)] = any,
                 1 => self.sheet[3] = [33, 32, any, 1 << 63, u64::MAX][self.args.below(5)],
                 2 => self.sheet[PARTS_AT] = [17, 16, any, 1 << 63, u64::MAX][self.args.below(5)],
@@ -281,7 +284,14 @@ impl Play {
                     let place = FIRST_PART + PART_WORDS * self.args.below(PLACES);
                     self.sheet[place] = [6, 255, 1 << 32, any | 8][self.args.below(4)];
                 }
-                6 => self.sheet[place + 1 + self.args.below(5)] = any,
+                6 => self.sheet[place + 1 + self.args.below(PART_WORDS - 1)] = any,
+                // A roughness of its own by any number but 0, good or bad; the flag alone.
+                7 => {
+                    let own = self.args.house(0.0, 1.0, 1e-3, 2);
+                    self.sheet[place + 6] = [1, self.not_one()][self.args.below(2)];
+                    self.sheet[place + 7] = own.to_bits();
+                }
+                8 => self.sheet[place + 6] = [0, 1, any, self.not_one()][self.args.below(4)],
                 _ => {
                     let part = words_of(&self.args.a_part(3, 3));
                     self.sheet[place..place + PART_WORDS].copy_from_slice(&part);

@@ -1,5 +1,7 @@
 //! The counts of one function, and the two tables.
 
+use cobalnis::words::PartWords;
+
 use crate::distance;
 use crate::mirror::NO_SUCH;
 use crate::refusals::Answer;
@@ -16,6 +18,9 @@ pub struct Row {
     by_number: [u64; 21],
     /// Numbers that name nothing.
     no_such: u64,
+    /// Parts among the inputs, and those with a roughness of their own.
+    parts: u64,
+    own: u64,
     pub disagreements: u64,
     shown: Vec<String>,
     plain: Option<Plain>,
@@ -56,6 +61,17 @@ impl Row {
                 self.shown.push(input());
             }
         }
+    }
+
+    /// A part among the inputs.
+    pub fn note_part(&mut self, words: &PartWords) {
+        self.parts += 1;
+        self.own += u64::from(words[6] != 0);
+    }
+
+    /// How many parts were among the inputs, and how many had a roughness of their own.
+    pub fn parts(&self) -> (u64, u64) {
+        (self.parts, self.own)
     }
 
     /// The same input against the untouched original, which is measured only.
@@ -154,6 +170,16 @@ pub fn print_agreement(rows: &[Row]) {
         for shown in &row.shown {
             println!("\n{} disagrees at {shown}", row.name);
         }
+    }
+}
+
+/// How many of the parts had a roughness of their own.
+pub fn print_own(rows: &[Row]) {
+    for row in rows.iter().filter(|row| row.parts > 0) {
+        let Row {
+            name, parts, own, ..
+        } = row;
+        println!("{name}: {own} of {parts} parts with a roughness of their own");
     }
 }
 

@@ -1,17 +1,14 @@
 //! A line each: the changes by hand and the calls.
 
 use cobalnis::words::{FIRST_PART, MACHS_AT, PARTS_AT, PART_WORDS, REYNOLDS_AT};
+use compare::mirror::part_words;
 use compare::model::{insert, open, remove, replace, set_column, Column, Part, Sheet};
 use compare::refusals::Answer;
 
-use crate::{part_words, Play};
+use crate::Play;
 
-/// A place and the words of the part that goes there.
-fn put(place: usize, part: &Part) -> Vec<u64> {
-    let mut words = vec![place as u64];
-    words.extend(part_words(part, f64::to_bits));
-    words
-}
+/// So many words of a part have room in a line beside two others.
+const ROOM: usize = 6;
 
 impl Play {
     // ---- changes by hand
@@ -42,12 +39,39 @@ impl Play {
         self.words(REYNOLDS_AT + at, &[column.reynolds.to_bits()]);
     }
 
+    /// A part at a place: its words but for the roughness, then those.
     pub fn hold(&mut self, place: usize, part: Part) {
+        self.count(&part);
+        let at = FIRST_PART + PART_WORDS * place;
+        let words = part_words(&part, f64::to_bits);
+        let held = &mut self.sheet.design.parts[place];
+        let roughness = held.roughness;
+        *held = Part { roughness, ..part };
+        self.words(at, &words[..ROOM]);
         self.sheet.design.parts[place] = part;
-        self.words(
-            FIRST_PART + PART_WORDS * place,
-            &part_words(&part, f64::to_bits),
-        );
+        self.words(at + ROOM, &words[ROOM..]);
+    }
+
+    fn count(&mut self, part: &Part) {
+        self.parts += 1;
+        self.own += usize::from(part.roughness.is_some());
+    }
+
+    /// What the lines of calls to come have for the part's last two words. A roughness of its own is
+    /// flagged by any number but 0, and where there is none its word may be any.
+    fn give(&mut self, part: &Part) {
+        self.count(part);
+        let [.., flag, own] = part_words(part, f64::to_bits);
+        let any = self.args.random.bits();
+        let given = match (flag, self.args.below(4)) {
+            (0, 0) => [0, any],
+            (1, 0) => [[2, u64::MAX, any | 2][self.args.below(3)], own],
+            _ => [flag, own],
+        };
+        if given != self.given {
+            self.given = given;
+            self.line('k', &given, Answer::accepted(0));
+        }
     }
 
     pub fn parts(&mut self, count: usize) {
@@ -76,8 +100,11 @@ impl Play {
 
     // ---- calls
 
+    /// A refused call leaves the words as they were, a refused open too.
     fn handed(&mut self, tag: char, args: &[u64], (answer, sheet): (Answer, Sheet)) -> Answer {
-        self.sheet = sheet;
+        if answer.refusal == 0 {
+            self.sheet = sheet;
+        }
         self.calls += 1;
         self.line(tag, args, answer);
         answer
@@ -88,24 +115,33 @@ impl Play {
         self.handed('o', &[], back)
     }
 
+    /// A call with a place and a part.
+    fn put(&mut self, tag: char, place: usize, part: &Part, back: (Answer, Sheet)) -> Answer {
+        let mut args = vec![place as u64];
+        args.extend(&part_words(part, f64::to_bits)[..ROOM]);
+        self.handed(tag, &args, back)
+    }
+
     pub fn replace(&mut self, place: usize, part: Part) -> Answer {
+        self.give(&part);
         let back = replace(
             &self.sheet,
             place,
             &part,
             &mut self.cells[..self.cell_count],
         );
-        self.handed('r', &put(place, &part), back)
+        self.put('r', place, &part, back)
     }
 
     pub fn insert(&mut self, place: usize, part: Part) -> Answer {
+        self.give(&part);
         let back = insert(
             &self.sheet,
             place,
             &part,
             &mut self.cells[..self.cell_count],
         );
-        self.handed('i', &put(place, &part), back)
+        self.put('i', place, &part, back)
     }
 
     pub fn remove(&mut self, place: usize) -> Answer {

@@ -1,4 +1,5 @@
-//! Lists that are each for one thing: opens, a part that widens later, a full design.
+//! Lists that are each for one thing: opens, a part that widens later, roughnesses of the parts' own,
+//! a full design.
 
 use compare::cards::shape_of;
 use compare::inputs::{specials, NANS};
@@ -57,6 +58,7 @@ impl Play {
             aft_diameter: d,
             joint_angle: 0.2,
             wetted_ratio: 3.0,
+            roughness: (d != 0.5).then_some(1e-3 * d),
         };
         let shapes = [
             shape_of(3, NANS[0]),
@@ -153,6 +155,66 @@ impl Play {
         }
     }
 
+    /// Roughnesses of the parts' own: the ends of their interval, and then outside it, in a part
+    /// given and alone in a part held, at the first place, in the middle and at the last.
+    pub fn roughnesses(&mut self) {
+        let finished = |roughness: Option<f64>| Part {
+            length: 0.5,
+            aft_diameter: 0.1,
+            wetted_ratio: 12.5,
+            roughness,
+            ..NO_PART
+        };
+        let good = [
+            Some(2e-6),
+            None,
+            Some(0.0),
+            Some(-0.0),
+            Some(1.0),
+            Some(5e-3),
+        ];
+        let bad = [
+            NANS[0],
+            NANS[3],
+            -1.0,
+            -f64::from_bits(1),
+            1.0f64.next_up(),
+            1.5,
+        ];
+        for count in [0, 2] {
+            self.opened(count);
+            for (place, own) in good.into_iter().enumerate() {
+                assert_eq!(self.insert(place, finished(own)).refusal, 0);
+            }
+            for own in bad.map(Some) {
+                assert_eq!(self.insert(6, finished(own)).refusal, 11);
+                assert_eq!(self.replace(1, finished(own)).refusal, 11);
+                for place in [0, 1, 5] {
+                    self.held_rough(place, own);
+                }
+            }
+        }
+    }
+
+    /// Each kind of call, all refused, on a sheet in which one roughness is changed by hand.
+    fn held_rough(&mut self, place: usize, roughness: Option<f64>) {
+        let whole = self.sheet.design.parts[place];
+        self.hold(place, Part { roughness, ..whole });
+        let new = Column {
+            mach: 0.5,
+            reynolds: 1e6,
+        };
+        let answers = [
+            self.insert(0, whole),
+            self.replace(place, whole),
+            self.replace(2, whole),
+            self.remove(place),
+            self.set_column(0, new),
+        ];
+        assert!(answers.iter().all(|answer| answer.refusal == 11));
+        self.hold(place, whole);
+    }
+
     /// A design of 16 parts: 8 and 9 at its end, and the calls at its last places.
     pub fn full(&mut self, columns: usize) {
         self.opened(columns);
@@ -162,6 +224,7 @@ impl Play {
                 aft_diameter: [0.1, 0.2, 0.2, 0.15][place % 4],
                 joint_angle: 0.1,
                 wetted_ratio: place as f64,
+                roughness: [Some(1e-5), None, Some(5e-3)][place % 3],
                 ..NO_PART
             };
             assert_eq!(self.insert(place, part).refusal, 0);
@@ -170,8 +233,12 @@ impl Play {
             length: 101.0,
             ..NO_PART
         };
+        let rough = Part {
+            roughness: Some(1.5),
+            ..NO_PART
+        };
         for place in [0, 15, 16, 17, 18, usize::MAX] {
-            for part in [NO_PART, bad] {
+            for part in [NO_PART, bad, rough] {
                 self.insert(place, part);
                 self.replace(place, part);
             }

@@ -1,9 +1,10 @@
 //! Lists of calls of all kinds, with good and bad arguments, on sheets opened or changed by hand.
 
 use compare::inputs::NANS;
-use compare::model::{PLACES, ROWS};
+use compare::mirror::part_words;
+use compare::model::{Part, PLACES, ROWS};
 
-use crate::{part_words, Play, BUFFER};
+use crate::{Play, BUFFER};
 
 impl Play {
     /// Foreign values in all cells: one number everywhere, NaN, or many different ones.
@@ -96,7 +97,7 @@ impl Play {
         let count = whole.settings.count;
         for _ in 0..3 {
             for _ in 0..1 + self.args.below(3) {
-                match self.args.below(6) {
+                match self.args.below(7) {
                     0 => {
                         let d = self.args.house(0.001, 100.0, 1.0, 2);
                         let roughness = self.args.house(0.0, 1.0, 0.01, 2);
@@ -124,6 +125,12 @@ impl Play {
                             self.hold(place, part);
                         }
                         self.parts(many);
+                    }
+                    4 if whole.design.count > 0 => {
+                        let place = self.args.below(whole.design.count);
+                        let roughness = Some(self.args.house(0.0, 1.0, 1e-3, 1));
+                        let held = whole.design.parts[place];
+                        self.hold(place, Part { roughness, ..held });
                     }
                     _ => {
                         let held = whole.design.count.max(1);

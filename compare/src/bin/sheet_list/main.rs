@@ -16,8 +16,9 @@
 //! The state's number h is made of 64-bit words x, one after the other, from h = 0xcbf29ce484222325:
 //! h is h xor x, turned left by 23 bits, times 0x100000001b3 without carry out of 64 bits. The
 //! words: D, roughness, B, the count of columns, M and R of each column (32 at most), the count of
-//! parts, each part's six words (16 parts at most), and all cells of the buffer. Every NaN is
-//! 7ff8000000000000, and a shape without a parameter has zeros for it.
+//! parts, each part's eight words (16 parts at most), and all cells of the buffer. Every NaN is
+//! 7ff8000000000000, and a shape without a parameter has zeros for it, as a part without a roughness
+//! of its own has.
 
 mod calls;
 mod cases;
@@ -25,12 +26,10 @@ mod lists;
 
 use std::io::{BufWriter, StdoutLock, Write};
 
-use cobalnis::words::PartWords;
 use compare::answer_bits;
 use compare::arguments::Arguments;
-use compare::cards::of_shape;
 use compare::list::line;
-use compare::mirror::status;
+use compare::mirror::{part_words, status};
 use compare::model::{Column, Design, Part, Settings, Sheet, COLUMNS, NO_PART, PLACES, ROWS};
 use compare::refusals::Answer;
 
@@ -45,26 +44,18 @@ fn mixed(h: u64, x: u64) -> u64 {
 /// The word from which on a line has its answer.
 const ANSWER: usize = 8;
 
-/// A part's words, with a bit function for the floats.
-fn part_words(part: &Part, bits: fn(f64) -> u64) -> PartWords {
-    let (number, parameter) = of_shape(part.shape);
-    [
-        number,
-        bits(parameter),
-        bits(part.length),
-        bits(part.aft_diameter),
-        bits(part.joint_angle),
-        bits(part.wetted_ratio),
-    ]
-}
-
 struct Play {
     out: BufWriter<StdoutLock<'static>>,
     args: Arguments,
     sheet: Sheet,
     cells: Vec<f64>,
     cell_count: usize,
+    /// Words 6 and 7 of the part in `i` and `r` lines.
+    given: [u64; 2],
     calls: usize,
+    /// Parts given and held, and those with a roughness of their own.
+    parts: usize,
+    own: usize,
 }
 
 impl Play {
@@ -125,7 +116,10 @@ fn main() {
         },
         cells: vec![0.0; BUFFER],
         cell_count: 0,
+        given: [0; 2],
         calls: 0,
+        parts: 0,
+        own: 0,
     };
     // The sheet of docs/REFERENCE.md, Example.
     play.settings(1.0, 0.0, 1.0, 1);
@@ -140,6 +134,7 @@ fn main() {
     );
     play.opens();
     play.later_widening();
+    play.roughnesses();
     for columns in 0..=COLUMNS {
         let calls = if columns < 8 { 60 } else { 36 };
         play.list(columns, calls, 40, 40);
@@ -157,6 +152,8 @@ fn main() {
     for columns in 0..4 {
         play.full(columns);
     }
+    let (own, parts) = (play.own, play.parts);
     eprintln!("{} calls", play.calls);
+    eprintln!("{own} of {parts} parts with a roughness of their own");
     play.out.flush().expect("standard output");
 }
