@@ -44,7 +44,7 @@ fn settings_pass(f: ReadSettings, bytes: &[u8]) -> u64 {
     sum
 }
 
-/// Part cards, of which most have all fields.
+/// Part cards, of which most have all fields but the roughness.
 fn part_cards(random: &mut Random, count: usize) -> Vec<u8> {
     let mut bytes = Vec::new();
     for _ in 0..count {
@@ -53,7 +53,7 @@ fn part_cards(random: &mut Random, count: usize) -> Vec<u8> {
         bytes.push(0b11_1101 | u8::from(has_parameter) << 1);
         bytes.push(words[0] as u8);
         let from = if has_parameter { 1 } else { 2 };
-        for word in &words[from..] {
+        for word in &words[from..6] {
             bytes.extend(word.to_le_bytes());
         }
     }

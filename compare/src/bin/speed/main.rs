@@ -32,9 +32,12 @@ const NOTES: &str = "
 - `coefficient` is asked 1024 times for each curve built.
 - The original has no sheet and no cards; there the other side is a model of each
   (model.rs, cards.rs) over the original's functions. It builds each curve once a call, but it
-  allocates a vector for each row that it tries and writes, and takes the boattail factor, the form
-  factor and the wetted sum anew at each column.
-- Whole build and remove start from a copied sheet (1320 bytes) on either side.
+  allocates a vector for each row that it tries and writes, and takes the boattail factor and the
+  form factor anew at each column. At a column it asks for the skin friction at the settings'
+  roughness once, and for each roughness of a part's own once more.
+- Parts have no roughness of their own where nothing is said of one. Rows with and without differ
+  in those numbers alone.
+- Whole build and remove start from a copied sheet (1576 bytes) on either side.
 - The original has no walk; there the other side tests as the port does, asks the original's
   lookup for each Mach, and counts by a plain walk.";
 

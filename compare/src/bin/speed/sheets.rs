@@ -13,7 +13,8 @@ use compare::model::{COLUMNS, PLACES, ROWS};
 use crate::curves::parameter;
 use crate::timing::{measure, row, Times};
 
-/// A part behind one of diameter `fore`; `widens` says whether it has to.
+/// A part behind one of diameter `fore`, without a roughness of its own; `widens` says whether it
+/// has to.
 pub fn part(random: &mut Random, fore: f64, widens: bool) -> PartWords {
     let shape = random.bits() % 6;
     let aft = if widens {
@@ -30,7 +31,8 @@ pub fn part(random: &mut Random, fore: f64, widens: bool) -> PartWords {
         random.between(0.0, 0.5),
         random.between(0.0, 30.0),
     ];
-    let mut words = [shape; PART_WORDS];
+    let mut words = [0; PART_WORDS];
+    words[0] = shape;
     for (word, x) in words[1..].iter_mut().zip(floats) {
         *word = x.to_bits();
     }
@@ -187,7 +189,7 @@ fn fifteen(random: &mut Random, widens: bool) -> Vec<(SheetWords, PartWords)> {
     (0..32)
         .map(|_| {
             let words = sheet(random, PLACES - 1, widens);
-            let last = words[SHEET_WORDS - PART_WORDS..].try_into().expect("6");
+            let last = *words.last_chunk().expect("a part's words");
             (words, last)
         })
         .collect()
@@ -207,22 +209,80 @@ pub fn rebuilds(random: &mut Random) -> Times {
     times
 }
 
-/// Sheets of any parts, and sheets in which every part widens.
-pub fn builds(random: &mut Random) -> [Times; 2] {
+/// The roughnesses have a generator of their own, so that all other inputs stay as they are.
+const OWN_SEED: u64 = 0x5eed_000d;
+
+/// A build of each of these sheets.
+fn time_builds(sheets: &[(SheetWords, PartWords)]) -> Times {
     let (port, original) = black_box((raw::cobalnis_insert as Edit, theirs::insert as Edit));
-    let time = |sheets: &[(SheetWords, PartWords)]| {
-        measure(sheets.len(), &mut || build_pass(port, sheets), &mut || {
-            build_pass(original, sheets)
-        })
-    };
-    let mixed = time(&fifteen(random, false));
+    measure(sheets.len(), &mut || build_pass(port, sheets), &mut || {
+        build_pass(original, sheets)
+    })
+}
+
+/// Sheets of any parts, sheets in which every part widens, and the first ones again with roughnesses
+/// of the parts' own.
+pub fn builds(random: &mut Random) -> [Times; 2] {
+    let sheets = fifteen(random, false);
+    let mixed = time_builds(&sheets);
     row(
         "whole build, 16 parts × 32 columns (insert of the 16th)",
         mixed,
     );
-    let widening = time(&fifteen(random, true));
+    let widening = time_builds(&fifteen(random, true));
     row("the same, every part widens", widening);
+    let mut random = Random::new(OWN_SEED);
+    let own = time_builds(&finished(&sheets, || random.scaled(1e-6, 1e-4)));
+    row("whole build, 16 roughnesses of their own", own);
+    against_without("build", own, mixed);
+    let shared = time_builds(&finished(&sheets, || 1e-5));
+    row("whole build, one roughness as all 16 parts' own", shared);
     [mixed, widening]
+}
+
+/// Gives a part a roughness of its own.
+fn finish(part: &mut [u64], roughness: f64) {
+    part[6] = 1;
+    part[7] = roughness.to_bits();
+}
+
+/// The same sheets, each part with a roughness of its own.
+fn finished(
+    sheets: &[(SheetWords, PartWords)],
+    mut roughness: impl FnMut() -> f64,
+) -> Vec<(SheetWords, PartWords)> {
+    let mut sheets = sheets.to_vec();
+    for (sheet, last) in &mut sheets {
+        for part in sheet[FIRST_PART..].chunks_exact_mut(PART_WORDS) {
+            finish(part, roughness());
+        }
+        *last = *sheet.last_chunk().expect("a part's words");
+    }
+    sheets
+}
+
+/// Each side's call on parts with roughnesses of their own, against its own without.
+fn against_without(call: &str, own: Times, without: Times) {
+    let sides = [
+        ("port", own.port, without.port),
+        ("original", own.original, without.original),
+    ];
+    for (side, port, original) in sides {
+        row(
+            &format!("{side}'s {call} with 16 roughnesses / {side}'s {call} without"),
+            Times { port, original },
+        );
+    }
+}
+
+/// Each of these parts put at its place in a full sheet.
+fn time_replaces(full: &SheetWords, parts: &[(usize, PartWords)]) -> Times {
+    let (port, original) = black_box((raw::cobalnis_replace as Edit, theirs::replace as Edit));
+    measure(
+        parts.len(),
+        &mut || replace_pass(port, full, parts),
+        &mut || replace_pass(original, full, parts),
+    )
 }
 
 /// Replace in a full sheet, and against a whole build of such a sheet. Where every part widens,
@@ -239,12 +299,7 @@ pub fn replaces(random: &mut Random, widens: bool, build: Times) -> Times {
             (place, new)
         })
         .collect();
-    let (port, original) = black_box((raw::cobalnis_replace as Edit, theirs::replace as Edit));
-    let replace = measure(
-        parts.len(),
-        &mut || replace_pass(port, &full, &parts),
-        &mut || replace_pass(original, &full, &parts),
-    );
+    let replace = time_replaces(&full, &parts);
     let of = if widens { ", every part widens" } else { "" };
     row(&format!("replace in a full sheet{of}"), replace);
     let against = |port: f64, original: f64| Times { port, original };
@@ -256,7 +311,22 @@ pub fn replaces(random: &mut Random, widens: bool, build: Times) -> Times {
         &format!("original's replace / original's whole build{of}"),
         against(replace.original, build.original),
     );
+    if !widens {
+        own_replaces(full, parts, replace);
+    }
     replace
+}
+
+/// The same replaces, each part with a roughness of its own, held and new ones.
+fn own_replaces(mut full: SheetWords, mut parts: Vec<(usize, PartWords)>, without: Times) {
+    let mut random = Random::new(OWN_SEED);
+    let held = full[FIRST_PART..].chunks_exact_mut(PART_WORDS);
+    for part in held.chain(parts.iter_mut().map(|(_, part)| &mut part[..])) {
+        finish(part, random.scaled(1e-6, 1e-4));
+    }
+    let own = time_replaces(&full, &parts);
+    row("replace in a full sheet, 16 roughnesses of their own", own);
+    against_without("replace", own, without);
 }
 
 pub fn set_columns(random: &mut Random) {
