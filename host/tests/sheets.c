@@ -117,6 +117,7 @@ static void own_roughness(void)
     double cells[COBALNIS_ROWS], x = 7;
     cobalnis_sheet sheet = example(cells, COBALNIS_ROWS);
     const double *friction = cobalnis_sheet_row(&sheet, COBALNIS_FRICTION, cells);
+    sheet.roughness = 1e-2;
     CHECK(cobalnis_sheet_set_column(&sheet, 0, 0, 1e6, cells, COBALNIS_ROWS, &x) == 0);
     CHECK(cobalnis_sheet_insert(&sheet, 0, finished(1e-3), cells, COBALNIS_ROWS, &x) == 0);
     CHECK(sheet.part[0].own_roughness == 1 && sheet.part[0].roughness == 1e-3);
@@ -127,7 +128,7 @@ static void own_roughness(void)
     plain.own_roughness = 0;
     CHECK(cobalnis_sheet_insert(&sheet, 1, plain, cells, COBALNIS_ROWS, &x) == 0);
     CHECK(sheet.part[1].own_roughness == 0 && cobalnis_bits(sheet.part[1].roughness) == 0);
-    CHECK(friction[0] == added(1e-3) + added(0) && added(0) != added(1e-3));
+    CHECK(friction[0] == added(1e-3) + added(1e-2) && added(1e-2) != added(1e-3));
 
     /* Any number but 0 makes it the part's own; -0 passes. */
     cobalnis_part other = finished(-0.0);

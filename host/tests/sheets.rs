@@ -148,8 +148,12 @@ fn finished(roughness: Option<f64>) -> Part {
 /// the parts' sum.
 #[test]
 fn roughness_of_its_own() {
+    let settings = Settings {
+        roughness: 1e-2,
+        ..settings()
+    };
     let mut cells = [0.0; ROWS];
-    let mut sheet = Sheet::open(&settings(), &mut cells).unwrap();
+    let mut sheet = Sheet::open(&settings, &mut cells).unwrap();
     let column = Column {
         mach: 0.0,
         reynolds: 1e6,
@@ -167,7 +171,7 @@ fn roughness_of_its_own() {
     sheet.replace(1, &finished(None)).unwrap();
     assert_eq!(sheet.part(1), Some(finished(None)));
     assert_eq!(sheet.words()[FIRST_PART + PART_WORDS + 6..][..2], [0, 0]);
-    assert_eq!(sheet.friction(), [added(1e-6) + added(0.0)]);
+    assert_eq!(sheet.friction(), [added(1e-6) + added(1e-2)]);
     for end in [0.0, -0.0, 1.0] {
         sheet.replace(0, &finished(Some(end))).unwrap();
         let back = sheet.part(0).and_then(|part| part.roughness);
