@@ -15,12 +15,13 @@ A text without any statement makes a card file without any bytes.
   roughness 2e-5            relative roughness, 0 to 1 (left out: 0)
   fineness 20.5             length of the body over its diameter (must be given)
   column 0.3 7.8e6          Mach and Reynolds number; one line for each column
-  part ogive 1 length 0.25 aft 0.054 angle 0 wetted 12.43
+  part ogive 1 length 0.25 aft 0.054 angle 0 wetted 12.43 roughness 2e-6
                             one line for each part, from the nose backwards
 
 A part is: the shape, its parameter, then names with a number in any order:
 length and aft diameter in metres, joint angle in radians, wetted area over
-reference area. A name left out counts as 0, a shape left out as conical.
+reference area, its own roughness, 0 to 1 (left out: the settings' roughness).
+Any other name left out counts as 0, a shape left out as conical.
 Shapes with a parameter: ogive (radius ratio, 1 is tangent), power (exponent),
 parabolic, haack (0 is von Karman). Shapes without: conical, elliptical.
 Numbers are decimal, or nan, inf, -inf. Any number is written as it stands, and
@@ -35,7 +36,7 @@ import sys
 SHAPES = ["conical", "ogive", "elliptical", "power", "parabolic", "haack"]
 WITH_PARAMETER = {"ogive", "power", "parabolic", "haack"}
 SETTINGS = ["diameter", "roughness", "fineness"]  # bits 0 to 2 of the settings card
-PART_NAMES = ["length", "aft", "angle", "wetted"]  # bits 2 to 5 of a part card
+PART_NAMES = ["length", "aft", "angle", "wetted", "roughness"]  # bits 2 to 6 of a part card
 PLACES = 16
 COLUMNS = 32
 ROWS = PLACES + 3  # a row for each place, friction, base, total
@@ -61,7 +62,8 @@ REFUSALS = {
     9: f"there are {PLACES} parts already, and no more fit",
     10: f"too few cells for the sheet: {ROWS} for each column are needed",
     11: ("the diameter is not within 0.001 to 100, or the roughness not within 0 to 1",
-         "length or aft diameter is not within 0 to 100, or the wetted ratio not within 0 to 10000"),
+         "length or aft diameter is not within 0 to 100, the wetted ratio not within 0 to 10000, or the part's "
+         "own roughness not within 0 to 1"),
     16: "a Mach number is below the one before it in a walk along a table",
 }
 

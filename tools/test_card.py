@@ -62,11 +62,20 @@ class Write(unittest.TestCase):
         card = b"\x07" + struct.pack("<3d", 2, 0.5, 3)
         self.assertEqual(self.written(head), card)
         for number, shape in enumerate(["conical", "ogive 7", "elliptical", "power 7", "parabolic 7", "haack 7"]):
-            values = (7, 1, 2, 3, 4) if " " in shape else (1, 2, 3, 4)
-            part = bytes([0x3f if " " in shape else 0x3d, number]) + struct.pack(f"<{len(values)}d", *values)
-            line = f"part {shape} wetted 4 angle 3 aft 2 length 1\n"
+            values = (7, 1, 2, 3, 4, 5) if " " in shape else (1, 2, 3, 4, 5)
+            part = bytes([0x7f if " " in shape else 0x7d, number]) + struct.pack(f"<{len(values)}d", *values)
+            line = f"part {shape} wetted 4 roughness 5 angle 3 aft 2 length 1\n"
             self.assertEqual(self.written(head + line * 2), card + part * 2)
         self.assertEqual(self.written(head + "part\n"), card + b"\x00")
+
+    def test_own_roughness(self):
+        head = "diameter 1\nroughness 0.5\nfineness 1\n"
+        card = b"\x07" + struct.pack("<3d", 1, 0.5, 1)
+        for line, part in [("part roughness 0.25", b"\x40" + struct.pack("<d", 0.25)),
+                           ("part roughness -0", b"\x40" + struct.pack("<d", -0.0)),
+                           ("part roughness 0.25 wetted 2", b"\x60" + struct.pack("<2d", 2, 0.25)),
+                           ("part wetted 2", b"\x20" + struct.pack("<d", 2))]:
+            self.assertEqual(self.written(head + line + "\n"), card + part)
 
     def test_nothing(self):
         for text in ("", "\n", "\r\n \t\r\n", "\ufeff", "# a comment\n\n  # another"):
@@ -95,6 +104,8 @@ class Write(unittest.TestCase):
             ("part elliptical nan length 1", "takes no parameter"), ("part length", "missing after 'length'"),
             ("part length aft 1", "'aft' is not a number"), ("part aft 1 aft 1", "'aft' is given twice"),
             ("part conical width 1", "unknown word 'width'"), ("part length 1 2", "unknown word '2'"),
+            ("part roughness", "missing after 'roughness'"), ("part roughness x", "'x' is not a number"),
+            ("part roughness 0 aft 1 roughness 0", "'roughness' is given twice"),
         ]:
             self.refused("# first\n\n" + line + "\ncolumn x x\n", 3, words)
         for key in ("diameter", "roughness", "fineness"):
@@ -135,6 +146,7 @@ class Read(unittest.TestCase):
                 self.assertTrue(output.decode().startswith(f"refused at {where}: "), output)
                 said.add(output.decode().split(": ", 1)[1])
         self.assertEqual(len(said), 12 + 3)  # 1, 6 and 11 have words of their own for settings and parts
+        self.assertIn("roughness not within 0 to 1 ", call("read", "refused 11 card 1\n")[1].decode())
 
     def test_malformed(self):
         lines = PAPER_SHEET.splitlines(keepends=True)
