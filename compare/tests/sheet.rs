@@ -216,6 +216,21 @@ fn refusals_of_the_table() {
     assert_eq!(insert(&full, 17, &part(1.0), &mut cells).0.refusal, 8);
 }
 
+/// An ogive, good or bad, with a roughness of its own every other time.
+fn an_ogive(random: &mut Random) -> Part {
+    let own = random.scaled(1e-6, 1e-2);
+    Part {
+        shape: NoseShape::Ogive {
+            radius_ratio: random.between(0.9, 3.0),
+        },
+        length: random.between(0.0, 3.0),
+        aft_diameter: random.pick(&[0.0, 0.5, 1.0, 1.5]),
+        joint_angle: random.between(0.0, 1.6),
+        wetted_ratio: random.between(0.0, 20.0),
+        roughness: (random.bits() % 2 == 0).then_some(own),
+    }
+}
+
 /// After each of many calls on a sheet that was opened, the cells are those of a build from nothing.
 #[test]
 fn edits_leave_the_build() {
@@ -230,16 +245,7 @@ fn edits_leave_the_build() {
         let (_, mut sheet) = open(&given, &mut cells);
         for _ in 0..400 {
             let place = (random.bits() % 17) as usize;
-            let new = Part {
-                shape: NoseShape::Ogive {
-                    radius_ratio: random.between(0.9, 3.0),
-                },
-                length: random.between(0.0, 3.0),
-                aft_diameter: random.pick(&[0.0, 0.5, 1.0, 1.5]),
-                joint_angle: random.between(0.0, 1.6),
-                wetted_ratio: random.between(0.0, 20.0),
-                roughness: [None, Some(random.scaled(1e-6, 1e-2))][(random.bits() % 2) as usize],
-            };
+            let new = an_ogive(&mut random);
             let column = Column {
                 mach: random.between(0.0, 3.0),
                 reynolds: random.scaled(1e3, 1e9),

@@ -2,7 +2,7 @@
 
 use compare::inputs::NANS;
 use compare::mirror::part_words;
-use compare::model::{Part, PLACES, ROWS};
+use compare::model::{Part, Sheet, PLACES, ROWS};
 
 use crate::{Play, BUFFER};
 
@@ -94,55 +94,64 @@ impl Play {
     fn broken_sheet(&mut self) {
         let whole = self.sheet;
         let cell_count = self.cell_count;
-        let count = whole.settings.count;
         for _ in 0..3 {
             for _ in 0..1 + self.args.below(3) {
-                match self.args.below(7) {
-                    0 => {
-                        let d = self.args.house(0.001, 100.0, 1.0, 2);
-                        let roughness = self.args.house(0.0, 1.0, 0.01, 2);
-                        let b = self
-                            .args
-                            .random
-                            .pick(&[0.0, -1.0, NANS[5], f64::INFINITY, 4.0]);
-                        let c = [count, count, 33, usize::MAX][self.args.below(4)];
-                        self.settings(d, roughness, b, c);
-                    }
-                    1 if count > 0 => {
-                        let at = self.args.below(count);
-                        let column = self.args.a_column(2);
-                        self.column(at, column);
-                    }
-                    2 if count > 0 => {
-                        let short = self.args.below(ROWS * count);
-                        self.lend(short);
-                    }
-                    3 => {
-                        let many = [17, 18, usize::MAX, 16][self.args.below(4)];
-                        // What stands past the count is nobody's: a part is put there first.
-                        for place in whole.design.count..PLACES {
-                            let part = self.args.a_part(40, 40);
-                            self.hold(place, part);
-                        }
-                        self.parts(many);
-                    }
-                    4 if whole.design.count > 0 => {
-                        let place = self.args.below(whole.design.count);
-                        let roughness = Some(self.args.house(0.0, 1.0, 1e-3, 1));
-                        let held = whole.design.parts[place];
-                        self.hold(place, Part { roughness, ..held });
-                    }
-                    _ => {
-                        let held = whole.design.count.max(1);
-                        let place = self.args.below(held);
-                        let part = self.args.a_part(2, 4);
-                        self.hold(place, part);
-                    }
-                }
+                self.break_one(&whole);
             }
             self.each_kind();
         }
-        // Back to the whole sheet, so that the list goes on.
+        self.mend(&whole);
+        self.lend(cell_count);
+    }
+
+    /// One thing of the sheet out of range.
+    fn break_one(&mut self, whole: &Sheet) {
+        let count = whole.settings.count;
+        match self.args.below(7) {
+            0 => {
+                let d = self.args.house(0.001, 100.0, 1.0, 2);
+                let roughness = self.args.house(0.0, 1.0, 0.01, 2);
+                let list = [0.0, -1.0, NANS[5], f64::INFINITY, 4.0];
+                let b = self.args.random.pick(&list);
+                let c = [count, count, 33, usize::MAX][self.args.below(4)];
+                self.settings(d, roughness, b, c);
+            }
+            1 if count > 0 => {
+                let (at, column) = (self.args.below(count), self.args.a_column(2));
+                self.column(at, column);
+            }
+            2 if count > 0 => {
+                let short = self.args.below(ROWS * count);
+                self.lend(short);
+            }
+            3 => self.many_parts(whole.design.count),
+            4 => {
+                // A held part's roughness alone.
+                let place = self.args.below(whole.design.count.max(1));
+                let roughness = Some(self.args.house(0.0, 1.0, 1e-3, 1));
+                let held = whole.design.parts[place];
+                self.hold(place, Part { roughness, ..held });
+            }
+            _ => {
+                let place = self.args.below(whole.design.count.max(1));
+                let part = self.args.a_part(2, 4);
+                self.hold(place, part);
+            }
+        }
+    }
+
+    /// A count of 16 or more. What stands past the count is nobody's: a part is put there first.
+    fn many_parts(&mut self, count: usize) {
+        let many = [17, 18, usize::MAX, 16][self.args.below(4)];
+        for place in count..PLACES {
+            let part = self.args.a_part(40, 40);
+            self.hold(place, part);
+        }
+        self.parts(many);
+    }
+
+    /// Back to the whole sheet, so that the list goes on.
+    fn mend(&mut self, whole: &Sheet) {
         let s = whole.settings;
         self.settings(s.reference_diameter, s.roughness, s.body_fineness, s.count);
         for at in 0..s.count {
@@ -162,7 +171,6 @@ impl Play {
         if self.sheet.design.count != whole.design.count {
             self.parts(whole.design.count);
         }
-        self.lend(cell_count);
     }
 
     /// Calls of all kinds after an accepted open, with cells changed in between.
