@@ -273,7 +273,7 @@ typedef struct {
 static_assert(sizeof(double) == 8 && sizeof(uint64_t) == 8, "a word has 8 bytes");
 static_assert(sizeof(cobalnis_part) == 8 * COBALNIS_PART_WORDS, "a part's words");
 static_assert(offsetof(cobalnis_part, wetted_ratio) == 8 * 5, "the wetted ratio");
-static_assert(offsetof(cobalnis_part, own_roughness) == 8 * 6, "whether it has a roughness");
+static_assert(offsetof(cobalnis_part, own_roughness) == 8 * 6, "its own roughness or not");
 static_assert(offsetof(cobalnis_part, roughness) == 8 * 7, "the last word of a part");
 static_assert(sizeof(cobalnis_sheet) == 8 * COBALNIS_SHEET_WORDS, "a sheet's words");
 static_assert(offsetof(cobalnis_sheet, columns) == 8 * 3, "the number of columns");

@@ -11,7 +11,8 @@
 //! The state is a sheet's words and a buffer of cells, one row more than the
 //! largest sheet has, all zeros before the first line. A call
 //! takes the words and the first so many cells of the buffer. Lines that change the state by hand are
-//! accepted always, so that a call meets any sheet and any cells.
+//! accepted always, so that a call meets any sheet and any cells. A line has no room for all words of
+//! a part: the last two, its roughness, are those of the last `k` line before, at first zeros.
 //!
 //! The state's number h is made of 64-bit words x, one after the other, from h = 0xcbf29ce484222325:
 //! h is h xor x, turned left by 23 bits, times 0x100000001b3 without carry out of 64 bits. The
