@@ -2,6 +2,7 @@
 pub mod Verdicts
 pub mod Sums
 pub mod AddedUp
+pub mod ByPlace
 pub mod Slots
 pub mod RowKinds
 pub mod Taken

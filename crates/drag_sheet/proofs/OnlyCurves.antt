@@ -28,19 +28,22 @@ use Rattle.nose_drag.specs.declared.builder.Curve.{Curve}
 use Rattle.nose_drag.specs.declared.builder.Curve.the-variants.{Built, Refused as NotBuilt}
 use Rattle.nose_drag.specs.Curves.{newCurve}
 use Rattle.nose_drag.specs.Answered.{curve-answered}
+use Rattle.sheet_data.specs.declared.PartRoughness.{PartRoughness}
+use Rattle.sheet_data.specs.declared.PartRoughness.the-variants.{OfSettings, Own}
 use Rattle.sheet_data.specs.declared.Part.{Part}
 use Rattle.sheet_data.specs.declared.Sheet.{Sheet}
 use Rattle.sheet_data.specs.Layout.{most-parts, most-columns}
 use Rattle.sheet_data.specs.Contents.{Contents, contentsOf, partAt, foreAt, machAt, reynoldsAt}
 use Rattle.sheet_data.specs.Tests.{0·001, 100·0, inInterval, bodyTest, columnsTest, settingsTest, partTest, partsTest, sheetTest}
+use Rattle.sheet_data.proofs.Held.{inside, given-own}
 use Rattle.drag_sheet.specs.declared.part.Row.the-variants.{Widening, Narrowing, Level}
 use Rattle.drag_sheet.specs.declared.part.Prepared.{Prepared}
 use Rattle.drag_sheet.specs.declared.part.Prepared.the-variants.{Ready, Refused as NotReady}
-use Rattle.drag_sheet.specs.Formulas.{areaRatio, withCurve, preparedOf, cellOf, cellFrom, readyTest, madeTest}
+use Rattle.drag_sheet.specs.Formulas.{areaRatio, withCurve, preparedOf, cellOf, cellFrom, readyTest, madeTest, roughnessOf}
 use Rattle.drag_sheet.specs.Build.{preparedAt, rowTest, trial}
 use Rattle.drag_sheet.specs.Calls.{Call, replace, insert, remove, setColumn, applied, argumentsTest, rowTestWhere, columnTrial, tries, after, callTest, decision}
 use Rattle.drag_sheet.proofs.Verdicts.{never}
-use Rattle.drag_sheet.proofs.Refusals.{then-failed, then-first, up-refused, held}
+use Rattle.drag_sheet.proofs.Refusals.{then-failed, then-first, up-refused}
 use Rattle.drag_sheet.proofs.Answers.{call-facts, Bounds, bounds}
 use Rattle.drag_sheet.proofs.TestsKept.{Tested, tested-after}
 
@@ -49,6 +52,7 @@ use Rattle.drag_sheet.proofs.TestsKept.{Tested, tested-after}
 record Sized (p : Part) : Type 0 where
   pub long : between 0·0 (p .length) 100·0 ≡ true
   pub aft : between 0·0 (p .«aft_diameter») 100·0 ≡ true
+  pub own : (x : Float) → p .roughness ≡ Own x → between 0·0 x 1·0 ≡ true
 
 record Ranges (c : Contents) : Type 0 where
   pub roughness : between 0·0 (c .settings .roughness) 1·0 ≡ true
@@ -60,7 +64,7 @@ sized : (p : Part) → partTest p ≡ Passed → Sized p
 sized p e =
     let a = both-passed (inInterval 0·0 (p .length) 100·0) _ e in
     let b = both-passed (inInterval 0·0 (p .«aft_diameter») 100·0) _ (a .second) in
-    record { long = held _ _ (a .first); aft = held _ _ (b .first) }
+    record { long = inside _ _ _ (a .first); aft = inside _ _ _ (b .first); own = λ x q. given-own p x e q }
 
 ranges : (c : Contents) (cells : ℕ) → Tested c cells → Ranges c
 unfolding sheetTest settingsTest columnsTest partsTest
@@ -74,7 +78,7 @@ ranges c cells t =
     let columns = both-passed (columnsTest s) _ (body .second) in
     let parts = both-passed (unless (ltb most-parts (length (c .parts))) DesignFull) _ (a .second) in
     record {
-      roughness = held _ _ (wall .first);
+      roughness = inside _ _ _ (wall .first);
       fineness = required-passed _ _ _ (wall .second);
       columns = up-each _ (s .count) (columns .first);
       parts = λ i h. sized (partAt (c .parts) i) (up-each _ (length (c .parts)) (parts .second) i h);
@@ -82,21 +86,30 @@ ranges c cells t =
 
 -- ---- the whole body
 
--- at a column: skin friction, form factor and base drag are these numbers
+-- the roughness of the part at a place
+abbrev roughnessAt : Contents → ℕ → Float
+roughnessAt c i = roughnessOf (partAt (c .parts) i .roughness) (c .settings .roughness)
+
+-- at a column: each part's skin friction, form factor and base drag are these numbers
 pub record Answered (c : Contents) (k : ℕ) : Type 0 where
-  pub friction : skinFrictionCoefficient (reynoldsAt (c .settings) k) (c .settings .roughness) (machAt (c .settings) k)
-      ≡ Value (compressible (limits (c .settings .roughness) (reynoldsAt (c .settings) k)) (limitedFriction (c .settings .roughness)) (reynoldsAt (c .settings) k) (machAt (c .settings) k))
+  pub friction : (i : ℕ) → i < length (c .parts) → skinFrictionCoefficient (reynoldsAt (c .settings) k) (roughnessAt c i) (machAt (c .settings) k)
+      ≡ Value (compressible (limits (roughnessAt c i) (reynoldsAt (c .settings) k)) (limitedFriction (roughnessAt c i)) (reynoldsAt (c .settings) k) (machAt (c .settings) k))
   pub form : bodyFrictionFormFactor (c .settings .«body_fineness») ≡ Value (1·0 ⊕ 0·5 ⊘ c .settings .«body_fineness»)
   pub base : baseDragCoefficient (machAt (c .settings) k) ≡ Value (baseDrag (machAt (c .settings) k))
 
 passed-at : (c : Contents) → Ranges c → (k : ℕ) → k < c .settings .count → machChecked (machAt (c .settings) k) ≡ Passed
 passed-at c r k h = both-passed (machChecked (machAt (c .settings) k)) _ (r .columns k h) .first
 
+-- its own, or the settings' one
+rough-inside : (k : Float) (r : PartRoughness) → between 0·0 k 1·0 ≡ true → ((x : Float) → r ≡ Own x → between 0·0 x 1·0 ≡ true) → between 0·0 (roughnessOf r k) 1·0 ≡ true
+rough-inside k OfSettings h own = h
+rough-inside k (Own x) h own = own x refl
+
 pub body-answered : (c : Contents) (cells : ℕ) → Tested c cells → (k : ℕ) → k < c .settings .count → Answered c k
 body-answered c cells t k h =
     let r = ranges c cells t in
     record {
-      friction = friction-answered (reynoldsAt (c .settings) k) (c .settings .roughness) (machAt (c .settings) k) (r .columns k h) (r .roughness);
+      friction = λ i l. friction-answered (reynoldsAt (c .settings) k) (roughnessAt c i) (machAt (c .settings) k) (r .columns k h) (rough-inside (c .settings .roughness) (partAt (c .parts) i .roughness) (r .roughness) (r .parts i l .own));
       form = form-answered (c .settings .«body_fineness») (r .fineness);
       base = base-answered (machAt (c .settings) k) (passed-at c r k h);
     }

@@ -34,9 +34,3 @@ up-refused test (suc n) h =
     (λ a. let r = up-refused test n a in (r .0, omega (arith, r .1), r .2))
     (λ b. (n, omega arith, b .1))
     (then-failed (upTo n test) (test n) h)
-
--- ---- what a passed test has shown
-
-pub held : (ok : Bool) (e : AeroError) → cond ok Passed (Failed e) ≡ Passed → ok ≡ true
-held true e h = refl
-held false e h = never refl h

@@ -1,2 +1,3 @@
--- A law of the order of tests.
+-- Laws of the tests: their order, and what they have shown once passed.
 pub mod Order
+pub mod Held
