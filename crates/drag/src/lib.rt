@@ -176,7 +176,7 @@ pub fn incompressible_skin_friction(reynolds: f64, relative_roughness: f64) -> C
 }
 
 // Whether the roughness of a wall limits the friction at a Reynolds number.
-pub fn limits(wall: Wall, reynolds: f64) -> bool
+fn limits(wall: Wall, reynolds: f64) -> bool
     ensures { λ r. ⌜ r ≡ limitsAt wall reynolds ⌝ }
 {
     if LOW_REYNOLDS <= reynolds {
@@ -265,7 +265,7 @@ pub fn friction_in(wall: Wall, flow: Flow) -> Coefficient
 }
 
 // Skin friction with compressibility on a wall.
-fn friction_on(wall: Wall, reynolds: f64, mach: f64) -> Coefficient
+pub fn friction_on(wall: Wall, reynolds: f64, mach: f64) -> Coefficient
     ensures { λ r. ⌜ r ≡ frictionOn wall reynolds mach ⌝ }
 {
     friction_in(wall, flow_of(!limits(wall, reynolds), reynolds, mach))

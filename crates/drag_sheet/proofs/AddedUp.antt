@@ -1,36 +1,33 @@
--- The friction row as the code adds it up, with the flow of each column and the friction at the settings' roughness worked out once: what is added for a part is the
--- formula's.
+-- The friction row as the code adds it up: what is added for a part is the formula's, where none has a roughness of its own (`common-added`) and where some have, with
+-- the flow of each column worked out once (`own-added`).
 use mathlib.Core.Path.{_≡_, refl, sym, ap, _∙_}
-use mathlib.Core.Logic.{dite, _⊎_, inl, inr}
-use mathlib.Core.Bool.{Bool, true, false, not, _||_, false≢true}
+use mathlib.Core.Logic.{dite, inl}
+use mathlib.Core.Bool.{Bool, true, false, _||_, false≢true}
 use mathlib.Core.List.{List}
 use Prim.Native.Nat.{ℕ, zero, suc, _≤_, _<_}
 use native.Mathlib.Nat.{not-suc-le-zero}
 use native.Mathlib.Decide.{ℕ-discrete}
 use native.Mathlib.Omega.{arith}
-use lib.ListN.{length, getD}
-use lib.Seq.{length-take-le}
+use lib.ListN.{length, getD, take}
+use lib.Seq.{length-take-le, getD-take}
 use lib.Ieee.{Float, nan}
 use Rattle.elementary.specs.Arithmetic.{_⊗_}
 use Rattle.aero_error.specs.declared.Coefficient.{Coefficient}
+use Rattle.drag.specs.declared.Wall.{Wall}
 use Rattle.drag.specs.declared.Flow.{Flow}
-use Rattle.drag.specs.Friction.{wallOf, skinFrictionCoefficient, bodyFrictionFormFactor, on-wall}
-use Rattle.drag.specs.Flows.{limitsAt, flowOf, frictionIn, in-flow}
+use Rattle.drag.specs.Friction.{wallOf, frictionOn, skinFrictionCoefficient, bodyFrictionFormFactor, on-wall}
+use Rattle.drag.specs.Flows.{frictionIn, in-flow}
 use Rattle.sheet_data.specs.declared.Settings.{Settings}
 use Rattle.sheet_data.specs.declared.PartRoughness.{PartRoughness}
 use Rattle.sheet_data.specs.declared.PartRoughness.the-variants.{OfSettings, Own}
 use Rattle.sheet_data.specs.declared.Part.{Part}
+use Rattle.sheet_data.specs.declared.Design.{Design}
 use Rattle.sheet_data.specs.declared.Sheet.{Sheet}
-use Rattle.sheet_data.specs.Contents.{contentsOf, partsOf, partAt, part-taken, machAt, reynoldsAt}
+use Rattle.sheet_data.specs.Contents.{contentsOf, partAt, part-taken, machAt, reynoldsAt}
 use Rattle.sheet_data.specs.Tables.{tab, tab-long, tab-at, tab-same}
 use Rattle.drag_sheet.specs.Formulas.{valueOf, roughnessOf, sumTo, frictionCell}
 use Rattle.drag_sheet.specs.Body.{isOwn, anyOwn, flowAt, Flows, formed, formedFor}
 use Rattle.drag_sheet.proofs.Sums.{sum-same}
-
-asked-or-limits : (own limited : Bool) → ((own || not limited) ≡ true) ⊎ (limited ≡ true)
-asked-or-limits true limited = inl refl
-asked-or-limits false true = inr refl
-asked-or-limits false false = inl refl
 
 or-right : (a : Bool) → (a || true) ≡ true
 or-right true = refl
@@ -42,37 +39,71 @@ unfolding anyOwn
 seen zero i ps h e = absurd (not-suc-le-zero h)
 seen (suc n) i ps h e = dite (ℕ-discrete i n) (λ q. rw (← q, e) (or-right (anyOwn i ps))) (λ q. rw (seen n i ps (omega arith) e))
 
-module _ (s : Settings) (ps : List Part) (n : ℕ) (flows : List Flow) (form : Float) (F : Flows s (wallOf (s .roughness)) (anyOwn n ps) flows) where
-  -- on a wall, where the turbulent friction was asked for or isn't read
-  on-flow : (x : Float) (k : ℕ) → k < s .count → ((anyOwn n ps || not (limitsAt (wallOf (s .roughness)) (reynoldsAt s k))) ≡ true) ⊎ (limitsAt (wallOf x) (reynoldsAt s k) ≡ true)
-      → formed (wallOf x) form (flowAt flows k) ≡ valueOf (skinFrictionCoefficient (reynoldsAt s k) x (machAt s k)) ⊗ form
-  on-flow x k h a =
-      ap (λ (c : Coefficient). valueOf c ⊗ form)
-      (ap (frictionIn (wallOf x)) (F .at k h) ∙ in-flow (wallOf x) _ (reynoldsAt s k) (machAt s k) a ∙ on-wall x (reynoldsAt s k) (machAt s k))
+-- so where none is seen, each part's roughness is the settings'
+not-own : (n i : ℕ) (ps : List Part) (k : Float) → i < n → anyOwn n ps ≡ false → roughnessOf (partAt ps i .roughness) k ≡ k
+not-own n i ps k h none = by-case (partAt ps i .roughness) refl
+  where
+    by-case : (r : PartRoughness) → partAt ps i .roughness ≡ r → roughnessOf r k ≡ k
+    by-case OfSettings q = refl
+    by-case (Own x) q = absurd (false≢true (sym none ∙ seen n i ps h (ap isOwn q)))
 
-  pub formed-is : (k i : ℕ) (common : Float) → k < s .count → i < n → common ≡ formed (wallOf (s .roughness)) form (flowAt flows k)
-      → formedFor (partAt ps i .roughness) common form (flowAt flows k) ≡ valueOf (skinFrictionCoefficient (reynoldsAt s k) (roughnessOf (partAt ps i .roughness) (s .roughness)) (machAt s k)) ⊗ form
-  formed-is k i common h l e = by-case (partAt ps i .roughness) refl
-    where
-      by-case : (r : PartRoughness) → partAt ps i .roughness ≡ r
-          → formedFor r common form (flowAt flows k) ≡ valueOf (skinFrictionCoefficient (reynoldsAt s k) (roughnessOf r (s .roughness)) (machAt s k)) ⊗ form
-      by-case OfSettings q = e ∙ on-flow (s .roughness) k h (asked-or-limits (anyOwn n ps) (limitsAt (wallOf (s .roughness)) (reynoldsAt s k)))
-      by-case (Own x) q = on-flow x k h (inl (rw (seen n i ps l (ap isOwn q))))
+-- ---- what is added for a part
 
--- the row added up is the row of the formula
-pub added-up : (sheet : Sheet) (flows : List Flow) (form : Float) (common : List Float) → sheet .design .count ≤ length (sheet .design .parts) → form ≡ valueOf (bodyFrictionFormFactor (sheet .settings .«body_fineness»))
-    → Flows (sheet .settings) (wallOf (sheet .settings .roughness)) (anyOwn (sheet .design .count) (sheet .design .parts)) flows
-    → common ≡ tab (sheet .settings .count) (λ k. formed (wallOf (sheet .settings .roughness)) form (flowAt flows k))
-    → tab (length common) (λ k. sumTo (sheet .design .count) (λ i. formedFor (partAt (sheet .design .parts) i .roughness) (getD common k nan) form (flowAt flows k) ⊗ partAt (sheet .design .parts) i .«wetted_ratio»))
-    ≡ tab (sheet .settings .count) (λ k. frictionCell (contentsOf sheet) (machAt (sheet .settings) k) (reynoldsAt (sheet .settings) k))
-unfolding frictionCell
-added-up sheet flows form common fits e F c =
-    let s = sheet .settings in
-    let d = sheet .design in
-    let n : length (partsOf d) ≡ d .count = length-take-le (d .count) (d .parts) fits in
-    rw (ap length c ∙ tab-long (s .count) _)
-    (tab-same (s .count) _ _ (λ k h.
-    rw n (sum-same (d .count) _ _ (λ i l.
-    rw (part-taken (d .count) i (d .parts) l, ← e)
-    (ap (λ (x : Float). x ⊗ partAt (d .parts) i .«wetted_ratio»)
-    (formed-is s (d .parts) (d .count) flows form F k i (getD common k nan) h l (ap (λ (xs : List Float). getD xs k nan) c ∙ tab-at (s .count) _ nan k h)))))))
+-- friction × form factor of a roughness, at a column
+abbrev pub formedAt : Settings → Float → ℕ → Float
+formedAt s x k = valueOf (skinFrictionCoefficient (reynoldsAt s k) x (machAt s k)) ⊗ valueOf (bodyFrictionFormFactor (s .«body_fineness»))
+
+module _ (s : Settings) (flows : List Flow) (F : Flows s flows) where
+  on-flow : (x : Float) (k : ℕ) → k < s .count → formed (wallOf x) (valueOf (bodyFrictionFormFactor (s .«body_fineness»))) (flowAt flows k) ≡ formedAt s x k
+  on-flow x k h =
+      ap (λ (c : Coefficient). valueOf c ⊗ valueOf (bodyFrictionFormFactor (s .«body_fineness»)))
+      (ap (frictionIn (wallOf x)) (F .at k h) ∙ in-flow (wallOf x) true (reynoldsAt s k) (machAt s k) (inl refl) ∙ on-wall x (reynoldsAt s k) (machAt s k))
+
+  formed-is : (r : PartRoughness) (common : Float) (k : ℕ) → k < s .count → common ≡ formed (wallOf (s .roughness)) (valueOf (bodyFrictionFormFactor (s .«body_fineness»))) (flowAt flows k)
+      → formedFor r common (valueOf (bodyFrictionFormFactor (s .«body_fineness»))) (flowAt flows k) ≡ formedAt s (roughnessOf r (s .roughness)) k
+  formed-is OfSettings common k h e = e ∙ on-flow (s .roughness) k h
+  formed-is (Own x) common k h e = on-flow x k h
+
+-- the columns that count, each asked once
+pub once-filled : (s : Settings) (wall : Wall) (form : Float) → wall ≡ wallOf (s .roughness) → form ≡ valueOf (bodyFrictionFormFactor (s .«body_fineness»))
+    → tab (s .count) (λ k. valueOf (frictionOn wall (getD (take (s .count) (s .reynolds)) k nan) (getD (take (s .count) (s .machs)) k nan)) ⊗ form) ≡ tab (s .count) (formedAt s (s .roughness))
+once-filled s wall form e q =
+    tab-same (s .count) _ _ (λ k h.
+    rw (getD-take (s .count) (s .reynolds) k nan h, getD-take (s .count) (s .machs) k nan h, e, q)
+    (ap (λ (c : Coefficient). valueOf c ⊗ valueOf (bodyFrictionFormFactor (s .«body_fineness»))) (on-wall (s .roughness) (reynoldsAt s k) (machAt s k))))
+
+-- ---- the row added up is the row of the formula
+
+module _ (sheet : Sheet) (fits : sheet .design .count ≤ length (sheet .design .parts)) where
+  abbrev s : Settings
+  s = sheet .settings
+
+  abbrev d : Design
+  d = sheet .design
+
+  -- from what is added for each part at each column
+  added : (common : List Float) (f : ℕ → ℕ → Float) → length common ≡ sheet .settings .count
+      → ((k i : ℕ) → k < sheet .settings .count → i < sheet .design .count → f k i ≡ formedAt (sheet .settings) (roughnessOf (partAt (sheet .design .parts) i .roughness) (sheet .settings .roughness)) k)
+      → tab (length common) (λ k. sumTo (sheet .design .count) (λ i. f k i ⊗ partAt (sheet .design .parts) i .«wetted_ratio»))
+      ≡ tab (sheet .settings .count) (λ k. frictionCell (contentsOf sheet) (machAt (sheet .settings) k) (reynoldsAt (sheet .settings) k))
+  unfolding frictionCell
+  added common f long same =
+      rw long
+      (tab-same (s .count) _ _ (λ k h.
+      rw (length-take-le (d .count) (d .parts) fits)
+      (sum-same (d .count) _ _ (λ i l. rw (part-taken (d .count) i (d .parts) l) (ap (λ (x : Float). x ⊗ partAt (d .parts) i .«wetted_ratio») (same k i h l))))))
+
+  pub own-added : (flows : List Flow) (form : Float) (common : List Float) → form ≡ valueOf (bodyFrictionFormFactor (sheet .settings .«body_fineness»)) → Flows (sheet .settings) flows
+      → common ≡ tab (sheet .settings .count) (λ k. formed (wallOf (sheet .settings .roughness)) form (flowAt flows k))
+      → tab (length common) (λ k. sumTo (sheet .design .count) (λ i. formedFor (partAt (sheet .design .parts) i .roughness) (getD common k nan) form (flowAt flows k) ⊗ partAt (sheet .design .parts) i .«wetted_ratio»))
+      ≡ tab (sheet .settings .count) (λ k. frictionCell (contentsOf sheet) (machAt (sheet .settings) k) (reynoldsAt (sheet .settings) k))
+  own-added flows form common e F c =
+      added common (λ k i. formedFor (partAt (d .parts) i .roughness) (getD common k nan) form (flowAt flows k)) (ap length c ∙ tab-long (s .count) _)
+      (λ k i h l. rw e (formed-is s flows F (partAt (d .parts) i .roughness) (getD common k nan) k h (ap (λ (xs : List Float). getD xs k nan) c ∙ tab-at (s .count) _ nan k h ∙ rw e)))
+
+  pub common-added : (common : List Float) → anyOwn (sheet .design .count) (sheet .design .parts) ≡ false → common ≡ tab (sheet .settings .count) (formedAt (sheet .settings) (sheet .settings .roughness))
+      → tab (length common) (λ k. sumTo (sheet .design .count) (λ i. getD common k nan ⊗ partAt (sheet .design .parts) i .«wetted_ratio»))
+      ≡ tab (sheet .settings .count) (λ k. frictionCell (contentsOf sheet) (machAt (sheet .settings) k) (reynoldsAt (sheet .settings) k))
+  common-added common none c =
+      added common (λ k i. getD common k nan) (ap length c ∙ tab-long (s .count) _)
+      (λ k i h l. ap (λ (xs : List Float). getD xs k nan) c ∙ tab-at (s .count) _ nan k h ∙ rw (not-own (d .count) i (d .parts) (s .roughness) l none))

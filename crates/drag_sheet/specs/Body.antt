@@ -1,7 +1,7 @@
 -- The rows of the whole body as the code works them out: the base with its share of the reference area, and the friction with what each column and each roughness
 -- decides worked out once.
 use mathlib.Core.Path.{_≡_}
-use mathlib.Core.Bool.{Bool, true, false, not, _||_}
+use mathlib.Core.Bool.{Bool, true, false, _||_}
 use mathlib.Core.List.{List}
 use Prim.Native.Nat.{ℕ, zero, suc, _<_}
 use lib.ListN.{length, getD}
@@ -11,7 +11,7 @@ use Rattle.drag.specs.declared.Wall.{Wall}
 use Rattle.drag.specs.declared.Flow.{Flow}
 use Rattle.drag.specs.declared.Flow.the-variants.{Subsonic}
 use Rattle.drag.specs.Friction.{wallOf}
-use Rattle.drag.specs.Flows.{limitsAt, flowOf, frictionIn}
+use Rattle.drag.specs.Flows.{flowOf, frictionIn}
 use Rattle.drag.specs.Pressure.{baseDragCoefficient}
 use Rattle.sheet_data.specs.declared.Settings.{Settings}
 use Rattle.sheet_data.specs.declared.PartRoughness.{PartRoughness}
@@ -51,10 +51,10 @@ no-flow = Subsonic nan nan nan
 abbrev pub flowAt : List Flow → ℕ → Flow
 flowAt flows k = getD flows k no-flow
 
--- the flow of each column, for frictions on this wall or, where `own` says so, on any
-pub record Flows (s : Settings) (wall : Wall) (own : Bool) (flows : List Flow) : Type 0 where
+-- the flow of each column, for frictions on any wall
+pub record Flows (s : Settings) (flows : List Flow) : Type 0 where
   pub long : length flows ≡ most-columns
-  pub at : (k : ℕ) → k < s .count → flowAt flows k ≡ flowOf (own || not (limitsAt wall (reynoldsAt s k))) (reynoldsAt s k) (machAt s k)
+  pub at : (k : ℕ) → k < s .count → flowAt flows k ≡ flowOf true (reynoldsAt s k) (machAt s k)
 
 -- friction × form factor, on a wall, and for a part of this roughness, `common` being that of the settings' roughness
 abbrev pub formed : Wall → Float → Flow → Float

@@ -27,11 +27,10 @@ pub(crate) fn fore_diameter(design: Design, place: usize) -> f64
     requires { ⌜ place ≤ most-parts ⌝ }
     ensures { λ r. ⌜ r ≡ foreAt (design .parts) place ⌝ }
 {
-    let parts = design.parts;
     if place == 0 {
         return 0.0;
     }
-    let part = parts[place - 1];
+    let part = design.parts[place - 1];
     part.aft_diameter
 }
 

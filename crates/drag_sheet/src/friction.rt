@@ -1,16 +1,17 @@
 // The friction row: what a roughness decides is worked out once for the row, what a Mach and a Reynolds number decide once for the column,
 // and the parts' frictions are added by place.
 ghost use mathlib.Core.Path.{_≡_};
+ghost use mathlib.Core.Bool.{false};
 ghost use Prim.Native.Nat.{_≤_};
 ghost use lib.ListN.{length, getD, replicate};
 ghost use lib.Ieee.{nan};
 ghost use Rattle.elementary.specs.Arithmetic.{_⊕_, _⊗_};
 ghost use Rattle.elementary.specs.Constants.{0·0};
-ghost use Rattle.drag.specs.Friction.{wallOf};
+ghost use Rattle.drag.specs.Friction.{wallOf, frictionOn};
 ghost use Rattle.sheet_data.specs.Layout.{most-parts, most-columns};
 ghost use Rattle.sheet_data.specs.Contents.{contentsOf, partAt, machAt, reynoldsAt};
 ghost use Rattle.sheet_data.specs.Tables.{tab};
-ghost use Rattle.drag_sheet.specs.Formulas.{sumTo, frictionCell};
+ghost use Rattle.drag_sheet.specs.Formulas.{valueOf, sumTo, frictionCell};
 ghost use Rattle.drag_sheet.specs.Body.{isOwn, anyOwn, flowAt, Flows, formed, formedFor};
 use crate::body::value_of;
 use drag::Flow;
@@ -36,11 +37,10 @@ fn any_own(design: Design) -> bool
     ensures { λ r. ⌜ r ≡ anyOwn (design .count) (design .parts) ⌝ }
 {
     let count = design.count;
-    let parts = design.parts;
     let mut own = false;
     let mut place = 0usize;
     while place < count {
-        let part = parts[place];
+        let part = design.parts[place];
         let roughness = part.roughness;
         own = own | is_own(roughness);
         place += 1;
@@ -48,10 +48,10 @@ fn any_own(design: Design) -> bool
     own
 }
 
-// The flow of each column. Where no friction is asked for but on this wall, and its roughness limits, the turbulent one isn't worked out.
-fn flows_of(settings: Settings, wall: Wall, own: bool) -> [Flow; COLUMNS]
+// The flow of each column.
+fn flows_of(settings: Settings) -> [Flow; COLUMNS]
     requires { ⌜ settings .count ≤ most-columns ⌝ }
-    ensures { λ r. ⌜ Flows settings wall own r ⌝ }
+    ensures { λ r. ⌜ Flows settings r ⌝ }
 {
     let count = settings.count;
     let machs = settings.machs;
@@ -64,14 +64,25 @@ fn flows_of(settings: Settings, wall: Wall, own: bool) -> [Flow; COLUMNS]
     let mut flows = [still; COLUMNS];
     let mut i = 0usize;
     while i < count {
-        let asked = own | !drag::limits(wall, reynolds[i]);
-        flows[i] = drag::flow_of(asked, reynolds[i], machs[i]);
+        flows[i] = drag::flow_of(true, reynolds[i], machs[i]);
         i += 1;
     }
     flows
 }
 
-// Friction times form factor on a wall, column by column.
+// Friction times form factor on a wall where each column is asked once.
+fn fill_once(wall: Wall, form: f64, machs: &[f64], reynolds: &[f64], out: &mut [f64])
+    requires { ⌜ (length (now machs) ≡ length (now out)) × (length (now reynolds) ≡ length (now out)) ⌝ }
+    ensures { λ _. ⌜ now (out .exit) ≡ tab (length (now (out .entry))) (λ k. valueOf (frictionOn wall (getD (now (reynolds .entry)) k nan) (getD (now (machs .entry)) k nan)) ⊗ form) ⌝ }
+{
+    let mut i = 0usize;
+    while i < out.len() {
+        out[i] = value_of(drag::friction_on(wall, reynolds[i], machs[i])) * form;
+        i += 1;
+    }
+}
+
+// Friction times form factor on a wall in the flow of each column.
 fn fill_on(wall: Wall, form: f64, flows: [Flow; COLUMNS], out: &mut [f64])
     requires { ⌜ length (now out) ≤ most-columns ⌝ }
     ensures { λ _. ⌜ now (out .exit) ≡ tab (length (now (out .entry))) (λ k. formed wall form (flowAt flows k)) ⌝ }
@@ -116,10 +127,9 @@ fn add_by_place(design: Design, common: &[f64], form: f64, flows: [Flow; COLUMNS
     ensures { λ _. ⌜ now (sum .exit) ≡ tab (length (now (common .entry))) (λ k. sumTo (design .count) (λ i. formedFor (partAt (design .parts) i .roughness) (getD (now (common .entry)) k nan) form (flowAt flows k) ⊗ partAt (design .parts) i .«wetted_ratio»)) ⌝ }
 {
     let count = design.count;
-    let parts = design.parts;
     let mut place = 0usize;
     while place < count {
-        let part = parts[place];
+        let part = design.parts[place];
         let wetted_ratio = part.wetted_ratio;
         let roughness = part.roughness;
         match roughness {
@@ -130,8 +140,22 @@ fn add_by_place(design: Design, common: &[f64], form: f64, flows: [Flow; COLUMNS
     }
 }
 
-// The friction row, added up in `sum`, which holds +0.
-pub(crate) fn sum_parts(sheet: Sheet, sum: &mut [f64])
+// The same of parts none of which has a roughness of its own.
+fn add_common(design: Design, common: &[f64], sum: &mut [f64])
+    requires { ⌜ (design .count ≤ most-parts) × (now sum ≡ replicate (length (now common)) 0·0) ⌝ }
+    ensures { λ _. ⌜ now (sum .exit) ≡ tab (length (now (common .entry))) (λ k. sumTo (design .count) (λ i. getD (now (common .entry)) k nan ⊗ partAt (design .parts) i .«wetted_ratio»)) ⌝ }
+{
+    let count = design.count;
+    let mut place = 0usize;
+    while place < count {
+        let part = design.parts[place];
+        add_part(common, part.wetted_ratio, sum);
+        place += 1;
+    }
+}
+
+// The friction row where parts have roughnesses of their own, added up in `sum`, which holds +0.
+fn sum_own(sheet: Sheet, sum: &mut [f64])
     requires { ⌜ (sheet .settings .count ≤ most-columns) × (sheet .design .count ≤ most-parts) × (now sum ≡ replicate (sheet .settings .count) 0·0) ⌝ }
     ensures { λ _. ⌜ now (sum .exit) ≡ tab (sheet .settings .count) (λ k. frictionCell (contentsOf sheet) (machAt (sheet .settings) k) (reynoldsAt (sheet .settings) k)) ⌝ }
 {
@@ -139,9 +163,49 @@ pub(crate) fn sum_parts(sheet: Sheet, sum: &mut [f64])
     let design = sheet.design;
     let count = settings.count;
     let form = value_of(drag::body_friction_form_factor(settings.body_fineness));
-    let wall = drag::wall_of(settings.roughness);
-    let flows = flows_of(settings, wall, any_own(design));
+    let flows = flows_of(settings);
     let mut common = [0.0; COLUMNS];
-    fill_on(wall, form, flows, &mut common[..count]);
+    fill_on(
+        drag::wall_of(settings.roughness),
+        form,
+        flows,
+        &mut common[..count],
+    );
     add_by_place(design, &common[..count], form, flows, sum);
+}
+
+// The same where none has.
+fn sum_common(sheet: Sheet, sum: &mut [f64])
+    requires { ⌜ (sheet .settings .count ≤ most-columns) × (sheet .design .count ≤ most-parts) × (now sum ≡ replicate (sheet .settings .count) 0·0) × (anyOwn (sheet .design .count) (sheet .design .parts) ≡ false) ⌝ }
+    ensures { λ _. ⌜ now (sum .exit) ≡ tab (sheet .settings .count) (λ k. frictionCell (contentsOf sheet) (machAt (sheet .settings) k) (reynoldsAt (sheet .settings) k)) ⌝ }
+{
+    let settings = sheet.settings;
+    let design = sheet.design;
+    let count = settings.count;
+    let machs = settings.machs;
+    let reynolds = settings.reynolds;
+    let form = value_of(drag::body_friction_form_factor(settings.body_fineness));
+    let wall = drag::wall_of(settings.roughness);
+    let mut common = [0.0; COLUMNS];
+    fill_once(
+        wall,
+        form,
+        &machs[..count],
+        &reynolds[..count],
+        &mut common[..count],
+    );
+    add_common(design, &common[..count], sum);
+}
+
+// The friction row, added up in `sum`, which holds +0.
+pub(crate) fn sum_parts(sheet: Sheet, sum: &mut [f64])
+    requires { ⌜ (sheet .settings .count ≤ most-columns) × (sheet .design .count ≤ most-parts) × (now sum ≡ replicate (sheet .settings .count) 0·0) ⌝ }
+    ensures { λ _. ⌜ now (sum .exit) ≡ tab (sheet .settings .count) (λ k. frictionCell (contentsOf sheet) (machAt (sheet .settings) k) (reynoldsAt (sheet .settings) k)) ⌝ }
+{
+    let design = sheet.design;
+    if any_own(design) {
+        sum_own(sheet, sum);
+    } else {
+        sum_common(sheet, sum);
+    }
 }

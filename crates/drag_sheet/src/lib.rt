@@ -201,9 +201,8 @@ fn row_at(sheet: Sheet, place: usize, out: &mut [f64]) -> Check
 {
     let settings = sheet.settings;
     let design = sheet.design;
-    let parts = design.parts;
     let fore = body::fore_diameter(design, place);
-    part::part_row(settings, fore, parts[place], out)
+    part::part_row(settings, fore, design.parts[place], out)
 }
 
 // Writes a part's own row, which is built, and the next part's, and the friction, base and total rows; or nothing, where the next

@@ -119,10 +119,9 @@ fn check_parts(design: Design) -> Check
     ensures { λ r. ⌜ r ≡ partsTest (partsOf design) ⌝ }
 {
     let count = design.count;
-    let parts = design.parts;
     let mut place = 0usize;
     while place < count {
-        let part = parts[place];
+        let part = design.parts[place];
         let check = check_part(part);
         let Check::Passed = check else {
             return check;

@@ -8,7 +8,7 @@ use Rattle.drag_sheet.proofs.row_at.Tie as tie
 
 returns : tie.Need-returns
 returns c =
-    let s = c .before .before .before .before .before .before .before .before .before .before in
+    let s = c .before .before .before .before .before .before .before .before .before in
     let d = s .args .sheet .design in
     row-made (s .args .sheet) (s .args .place) _ _ (simp length-map at (s .good .0 .1 .1 .1 .0 .1 .1 .1 .0 .1 .0 .1)) (s .pre) (c .before .before .before .before .before .fore-diameter .ensures) refl (c .before .before .part-row .ensures)
 
@@ -16,8 +16,8 @@ pub row-at-spec : {M : Type 1} → statement M
 row-at-spec =
     tie.close
     (tie.spec
-    (λ c κs. let p = c .before .before .before .before .pre in search needs)
-    (λ c. let p = c .before .before .before .before .before .pre in search needs)
-    (λ c. let p = c .before .before .before .before .before .pre in search needs)
-    (λ c κs. let p = c .before .before .before .before .before .before .before .pre in (p .columns, p .wide))
+    (λ c κs. let p = c .before .before .before .pre in search needs)
+    (λ c. let p = c .before .before .before .before .pre in search needs)
+    (λ c. let p = c .before .before .before .before .pre in search needs)
+    (λ c κs. let p = c .before .before .before .before .before .before .pre in (p .columns, p .wide))
     (λ c. search needs) returns)

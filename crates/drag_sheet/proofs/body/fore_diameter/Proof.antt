@@ -14,8 +14,8 @@ returns c = rw (c .if1 .taken)
 returns-2 : tie.Need-returns-2
 unfolding foreAt
 returns-2 c =
-    let d = c .before .before .before .args .design in
-    let n = c .before .before .before .args .place in
+    let d = c .before .before .args .t1 in
+    let n = c .before .before .args .place in
     let e : suc (n - 1) ≡ n = omega (arith, c .before .if1 .left) in
     ap (foreAt (d .parts)) e
 

@@ -18,17 +18,17 @@ use Rattle.drag_sheet.proofs.friction.add_by_place.Statement.{statement
 use Rattle.drag_sheet.proofs.friction.add_by_place.Tie as tie
 
 abbrev Inv-loop : tie.InvT-loop
-Inv-loop common form flows sum₀ count parts place₀ sum place =
-    (place ≤ count) × (sum ≡ tab (length common) (λ k. sumTo place (λ i. formedFor (partAt parts i .roughness) (getD common k nan) form (flowAt flows k) ⊗ partAt parts i .«wetted_ratio»)))
+Inv-loop common form flows sum₀ design count place₀ sum place =
+    (place ≤ count) × (sum ≡ tab (length common) (λ k. sumTo place (λ i. formedFor (partAt (design .parts) i .roughness) (getD common k nan) form (flowAt flows k) ⊗ partAt (design .parts) i .«wetted_ratio»)))
 
 abbrev μ-loop : tie.MeasureT-loop
-μ-loop common form flows sum₀ count parts place₀ sum place = count - place
+μ-loop common form flows sum₀ design count place₀ sum place = count - place
 
 loop-again : tie.Need-loop-again Inv-loop μ-loop
 loop-again c =
-    let s = c .before .before .before .before .before .before .before in
+    let s = c .before .before .before .before .before .before in
     let l = c .before .before .before .loop in
-    let ps = s .args .design .parts in
+    let ps = s .args .t1 .parts in
     let xs = s .args .common .now in
     let w = partAt ps (l .place) .«wetted_ratio» in
     let f : ℕ → ℕ → Float = λ k i. formedFor (partAt ps i .roughness) (getD xs k nan) (s .args .form) (flowAt (s .args .flows) k) ⊗ partAt ps i .«wetted_ratio» in (
@@ -42,19 +42,19 @@ loop-again c =
 returns : tie.Need-returns Inv-loop μ-loop
 returns c =
     let l = c .before .loop in
-    let s = c .before .before .before .before .before in
-    let e : l .place ≡ s .args .design .count = omega arith in
+    let s = c .before .before .before .before in
+    let e : l .place ≡ s .args .t1 .count = omega arith in
     l .inv .1 ∙ rw e
 
 -- the sum has a cell for each column
-sum-long : (c : tie.At-loop Inv-loop μ-loop) → length (c .loop .sum) ≡ length (c .before .before .before .before .args .common .now)
+sum-long : (c : tie.At-loop Inv-loop μ-loop) → length (c .loop .sum) ≡ length (c .before .before .before .args .common .now)
 sum-long c = ap length (c .loop .inv .1) ∙ tab-long _ _
 
 pub add-by-place-spec : {M : Type 1} → statement M
 add-by-place-spec =
     tie.close
     (tie.spec
-    Inv-loop μ-loop (λ c. (omega arith, c .before .before .before .pre .2 ∙ tab-constant _ 0·0 ∙ tab-same _ _ _ (λ k h. sym (sum-none _)))) (λ c. omega arith)
+    Inv-loop μ-loop (λ c. (omega arith, c .before .before .pre .2 ∙ tab-constant _ 0·0 ∙ tab-same _ _ _ (λ k h. sym (sum-none _)))) (λ c. omega arith)
     (λ c. omega arith) (λ c. search needs) (λ c κs. sym (sum-long (c .before .before .before .before .before))) (λ c. search needs)
     (λ c κs. omega (arith, sum-long (c .before .before .before .before .before .before))) (λ c. omega arith) (λ c. omega arith) loop-again
-    (λ c. sum-long (c .before) ∙ sym (ap length (c .before .before .before .before .before .pre .2) ∙ length-replicate _ _)) returns)
+    (λ c. sum-long (c .before) ∙ sym (ap length (c .before .before .before .before .pre .2) ∙ length-replicate _ _)) returns)

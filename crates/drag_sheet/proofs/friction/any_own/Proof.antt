@@ -9,10 +9,10 @@ use Rattle.drag_sheet.proofs.friction.any_own.Statement.{statement}
 use Rattle.drag_sheet.proofs.friction.any_own.Tie as tie
 
 abbrev Inv-loop : tie.InvT-loop
-Inv-loop count parts own₀ place₀ own place = (place ≤ count) × (own ≡ anyOwn place parts)
+Inv-loop design count own₀ place₀ own place = (place ≤ count) × (own ≡ anyOwn place (design .parts))
 
 abbrev μ-loop : tie.MeasureT-loop
-μ-loop count parts own₀ place₀ own place = count - place
+μ-loop design count own₀ place₀ own place = count - place
 
 loop-again : tie.Need-loop-again Inv-loop μ-loop
 unfolding anyOwn
@@ -21,7 +21,7 @@ loop-again c = let l = c .before .before .before .loop in (omega arith, rw (add-
 returns : tie.Need-returns Inv-loop μ-loop
 returns c =
     let l = c .before .loop in
-    let d = c .before .before .before .args .design in
+    let d = c .before .before .args .t1 in
     let e : l .place ≡ d .count = omega arith in
     l .inv .1 ∙ ap (λ (n : ℕ). anyOwn n (d .parts)) e
 

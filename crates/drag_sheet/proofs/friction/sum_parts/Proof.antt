@@ -1,54 +1,16 @@
--- `sum_parts` meets its contract: what it has worked out, added up, is the row of the formula.
-use mathlib.Core.Path.{_≡_, refl, sym, ap, _∙_}
-use Prim.Native.Nat.{ℕ}
-use native.Mathlib.Omega.{arith}
-use lib.ListN.{length, replicate, length-map, length-append}
-use lib.Seq.{take-at, length-take-le}
-use Rattle.elementary.specs.Constants.{0·0}
-use Rattle.sheet_data.specs.Layout.{most-columns, most-parts}
-use Rattle.sheet_data.specs.Tables.{tab-long}
-use Rattle.drag_sheet.specs.Formulas.{valueOf}
-use Rattle.drag_sheet.proofs.Taken.{prefix-long, zeros}
-use Rattle.drag_sheet.proofs.AddedUp.{added-up}
+-- `sum_parts` meets its contract: each way is the row of the formula.
+use mathlib.Core.Path.{sym, _∙_}
 use borrow.Author.Needs.{needs}
 use Rattle.drag_sheet.proofs.friction.sum_parts.Statement.{statement}
 use Rattle.drag_sheet.proofs.friction.sum_parts.Tie as tie
 
--- the row at the settings' roughness has a cell for each column
-fill-long : (c : tie.After-fill-on) → length (c .fill-on .last .1 .1 .1 .0) ≡ c .before .before .before .before .before .before .before .before .before .before .args .sheet .settings .count
-fill-long c =
-    let s = c .before .before .before .before .before .before .before .before .before .before in
-    ap length (c .fill-on .ensures) ∙ tab-long _ _ ∙ sym (prefix-long (s .args .sheet .settings .count) (replicate most-columns 0·0) (omega arith))
-
--- the array holds as many parts as are counted
-slots : (s : tie.Start) → length (s .args .sheet .design .parts) ≡ most-parts
-slots s = simp length-map at (s .good .0 .1 .1 .1 .0 .1 .1 .1 .0 .1 .0 .1)
-
-add-by-place-requires : tie.Need-add-by-place-requires
-add-by-place-requires c κs =
-    let f = c .before .before .before in
-    let s = f .before .before .before .before .before .before .before .before .before .before in
-    rw (take-at (f .fill-on .last .1 .1 .1 .0) _ (s .args .sheet .settings .count) (fill-long f), fill-long f) (s .pre .1, s .pre .0, s .pre .2)
-
-returns : tie.Need-returns
-returns c =
-    let f = c .before .before .before .before .before .before in
-    let s = f .before .before .before .before .before .before .before .before .before .before in
-    let w = f .before .before .before .before in
-    let form = w .before .value-of .ensures ∙ ap valueOf (w .before .before .body-friction-form-factor .ensures) in
-    let F = rw (w .wall-of .ensures, f .before .before .before .any-own .ensures) at (f .before .before .flows-of .ensures) in
-    c .before .before .add-by-place .ensures
-    ∙ rw (take-at (f .fill-on .last .1 .1 .1 .0) _ (s .args .sheet .settings .count) (fill-long f))
-    (added-up (s .args .sheet) _ _ _ (omega (arith, slots s)) form F (f .fill-on .ensures ∙ rw (← prefix-long (s .args .sheet .settings .count) (replicate most-columns 0·0) (omega arith), w .wall-of .ensures)))
+sum-common-requires : tie.Need-sum-common-requires
+sum-common-requires c κs =
+    let s = c .before .before .before .before .before in
+    (s .pre .0, s .pre .1, s .pre .2, sym (c .before .before .any-own .ensures) ∙ c .before .if1 .left)
 
 pub sum-parts-spec : {M : Type 1} → statement M
 sum-parts-spec =
     tie.close
     (tie.spec
-    (λ c κs. search needs) (λ c κs. search needs) (λ c κs. search needs) (λ c κs. search needs) (λ c κs. search needs)
-    (λ c. search needs)
-    (λ c. prefix-long _ (replicate most-columns 0·0) (omega arith))
-    (λ c κs. let s = c .before .before .before .before .before .before .before .before .before in let l = prefix-long (s .args .sheet .settings .count) (replicate most-columns 0·0) (omega arith) in omega (arith, l))
-    (λ c. let l = fill-long (c .before) in simp length-append (omega arith))
-    (λ c. let l = fill-long (c .before .before) in prefix-long _ _ (simp length-append (omega arith)))
-    add-by-place-requires (λ c. search needs) returns)
+    (λ c κs. search needs) (λ c κs. search needs) sum-common-requires (λ c. search needs) (λ c. search needs) (λ c. search needs) (λ c. search needs))
