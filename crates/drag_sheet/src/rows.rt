@@ -121,11 +121,11 @@ fn write_friction(sheet: Sheet, finish: usize, cells: &mut [f64])
     requires { ⌜ Fits sheet (length (now cells)) × (finish < finishCount) ⌝ }
     ensures { λ _. ⌜ now (cells .exit) ≡ written (friction-row finish * sheet .settings .count) (rowOf (contentsOf sheet) (friction-row finish)) (now (cells .entry)) ⌝ }
 {
-    let mut sum = [0.0; COLUMNS];
+    let mut row = [0.0; COLUMNS];
     let count = sheet.settings.count;
     let at = offset(friction_row() + finish, count);
-    friction::sum_parts(sheet, &mut sum[..count]);
-    write_row(at, &sum[..count], cells);
+    friction::sum_parts(sheet, &mut row[..count]);
+    write_row(at, &row[..count], cells);
 }
 
 // Writes the friction rows.

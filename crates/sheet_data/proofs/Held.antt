@@ -26,13 +26,16 @@ inside low x high h = by-test (between low x high) h
     by-test true e = refl
     by-test false e = let z : _≡_ {A = ℕ} 0 1 = cc in absurd (omega arith)
 
+own-inside : (k : PartRoughness) (x : Float) → ownTest k ≡ Passed → k ≡ Own x → between 0·0 x 1·0 ≡ true
+own-inside k x h e = inside 0·0 x 1·0 (rw e at h)
+
 -- of a part
 pub given-own : (p : Part) (x : Float) → partTest p ≡ Passed → p .roughness ≡ Own x → between 0·0 x 1·0 ≡ true
 given-own p x h e =
     let a = both-passed (inInterval 0·0 (p .length) 100·0) _ h in
     let b = both-passed (inInterval 0·0 (p .«aft_diameter») 100·0) _ (a .second) in
     let d = both-passed (inInterval 0·0 (p .«wetted_ratio») 10000·0) _ (b .second) in
-    inside 0·0 x 1·0 (rw e at (d .second))
+    own-inside (p .roughness) x (d .second) e
 
 -- of every part held
 pub held-own : (ps : List Part) (i : ℕ) (x : Float) → partsTest ps ≡ Passed → i < length ps → partAt ps i .roughness ≡ Own x → between 0·0 x 1·0 ≡ true
