@@ -6,7 +6,7 @@ use mathlib.Core.List.{List}
 use Prim.Native.Nat.{ℕ, zero, suc, _<_}
 use lib.ListN.{length, getD}
 use lib.Ieee.{Float, nan}
-use Rattle.elementary.specs.Arithmetic.{_⊗_, _⊘_}
+use Rattle.elementary.specs.Arithmetic.{_⊕_, _⊗_, _⊘_}
 use Rattle.drag.specs.declared.Wall.{Wall}
 use Rattle.drag.specs.declared.Flow.{Flow}
 use Rattle.drag.specs.declared.Flow.the-variants.{Subsonic}
@@ -59,6 +59,10 @@ pub record Flows (s : Settings) (flows : List Flow) : Type 0 where
 -- friction × form factor, on a wall, and for a part of this roughness, `common` being that of the settings' roughness
 abbrev pub formed : Wall → Float → Flow → Float
 formed wall form flow = valueOf (frictionIn wall flow) ⊗ form
+
+-- four more terms of a sum
+abbrev pub fourMore : Float → Float → Float → Float → Float → Float → Float
+fourMore sum x a b c d = sum ⊕ x ⊗ a ⊕ x ⊗ b ⊕ x ⊗ c ⊕ x ⊗ d
 
 abbrev pub formedFor : PartRoughness → Float → Float → Flow → Float
 formedFor OfSettings common form flow = common

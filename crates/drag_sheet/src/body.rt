@@ -39,10 +39,8 @@ pub(crate) fn base_area(sheet: Sheet) -> f64
     requires { ⌜ sheet .design .count ≤ most-parts ⌝ }
     ensures { λ r. ⌜ r ≡ baseArea (contentsOf sheet) ⌝ }
 {
-    let settings = sheet.settings;
-    let design = sheet.design;
-    let reference = settings.reference_diameter;
-    let last = fore_diameter(design, design.count);
+    let reference = sheet.settings.reference_diameter;
+    let last = fore_diameter(sheet.design, sheet.design.count);
     last * last / (reference * reference)
 }
 

@@ -12,7 +12,7 @@ ghost use Rattle.sheet_data.specs.Layout.{most-parts, most-columns};
 ghost use Rattle.sheet_data.specs.Contents.{contentsOf, partAt, machAt, reynoldsAt};
 ghost use Rattle.sheet_data.specs.Tables.{tab};
 ghost use Rattle.drag_sheet.specs.Formulas.{valueOf, sumTo, frictionCell};
-ghost use Rattle.drag_sheet.specs.Body.{isOwn, anyOwn, flowAt, Flows, formed, formedFor};
+ghost use Rattle.drag_sheet.specs.Body.{isOwn, anyOwn, flowAt, Flows, formed, formedFor, fourMore};
 use crate::body::value_of;
 use drag::Flow;
 use drag::Wall;
@@ -107,6 +107,19 @@ fn add_part(formed: &[f64], wetted_ratio: f64, sum: &mut [f64])
     }
 }
 
+// The same of four parts, one after the other, so that the sum is read and written once for all four.
+fn add_four(formed: &[f64], a: f64, b: f64, c: f64, d: f64, sum: &mut [f64])
+    requires { ⌜ length (now formed) ≡ length (now sum) ⌝ }
+    ensures { λ _. ⌜ now (sum .exit) ≡ tab (length (now (sum .entry))) (λ k. fourMore (getD (now (sum .entry)) k nan) (getD (now (formed .entry)) k nan) a b c d) ⌝ }
+{
+    let mut i = 0usize;
+    while i < sum.len() {
+        let x = formed[i];
+        sum[i] = sum[i] + x * a + x * b + x * c + x * d;
+        i += 1;
+    }
+}
+
 // Adds the friction of a part with a roughness of its own.
 fn add_own(roughness: f64, form: f64, flows: [Flow; COLUMNS], wetted_ratio: f64, sum: &mut [f64])
     requires { ⌜ length (now sum) ≤ most-columns ⌝ }
@@ -147,6 +160,21 @@ fn add_common(design: Design, common: &[f64], sum: &mut [f64])
 {
     let count = design.count;
     let mut place = 0usize;
+    while place + 3 < count {
+        let first = design.parts[place];
+        let second = design.parts[place + 1];
+        let third = design.parts[place + 2];
+        let fourth = design.parts[place + 3];
+        add_four(
+            common,
+            first.wetted_ratio,
+            second.wetted_ratio,
+            third.wetted_ratio,
+            fourth.wetted_ratio,
+            sum,
+        );
+        place += 4;
+    }
     while place < count {
         let part = design.parts[place];
         add_part(common, part.wetted_ratio, sum);
@@ -180,7 +208,6 @@ fn sum_common(sheet: Sheet, sum: &mut [f64])
     ensures { λ _. ⌜ now (sum .exit) ≡ tab (sheet .settings .count) (λ k. frictionCell (contentsOf sheet) (machAt (sheet .settings) k) (reynoldsAt (sheet .settings) k)) ⌝ }
 {
     let settings = sheet.settings;
-    let design = sheet.design;
     let count = settings.count;
     let machs = settings.machs;
     let reynolds = settings.reynolds;
@@ -194,7 +221,7 @@ fn sum_common(sheet: Sheet, sum: &mut [f64])
         &reynolds[..count],
         &mut common[..count],
     );
-    add_common(design, &common[..count], sum);
+    add_common(sheet.design, &common[..count], sum);
 }
 
 // The friction row, added up in `sum`, which holds +0.
@@ -202,8 +229,7 @@ pub(crate) fn sum_parts(sheet: Sheet, sum: &mut [f64])
     requires { ⌜ (sheet .settings .count ≤ most-columns) × (sheet .design .count ≤ most-parts) × (now sum ≡ replicate (sheet .settings .count) 0·0) ⌝ }
     ensures { λ _. ⌜ now (sum .exit) ≡ tab (sheet .settings .count) (λ k. frictionCell (contentsOf sheet) (machAt (sheet .settings) k) (reynoldsAt (sheet .settings) k)) ⌝ }
 {
-    let design = sheet.design;
-    if any_own(design) {
+    if any_own(sheet.design) {
         sum_own(sheet, sum);
     } else {
         sum_common(sheet, sum);

@@ -11,7 +11,7 @@ use Rattle.drag_sheet.proofs.body.base_area.Tie as tie
 
 returns : tie.Need-returns
 returns c =
-    let s = c .before .before .before in
+    let s = c .before in
     let d = s .args .sheet .design in
     let n : length (partsOf d) ≡ d .count = length-take-le (d .count) (d .parts) (omega (arith, simp length-map at (s .good .0 .1 .1 .1 .0 .1 .1 .1 .0 .1 .0 .1))) in
     rw (c .fore-diameter .ensures, n, fore-taken (d .count) (d .count) (d .parts) (omega arith))
