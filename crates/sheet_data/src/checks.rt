@@ -44,11 +44,9 @@ fn check_columns(settings: Settings) -> Check
     ensures { λ r. ⌜ r ≡ columnsTest settings ⌝ }
 {
     let count = settings.count;
-    let machs = settings.machs;
-    let reynolds = settings.reynolds;
     let mut i = 0usize;
     while i < count {
-        let check = drag::check_flow(machs[i], reynolds[i]);
+        let check = drag::check_flow(settings.machs[i], settings.reynolds[i]);
         let Check::Passed = check else {
             return check;
         };
@@ -135,15 +133,13 @@ fn check_parts(design: Design) -> Check
 pub fn check_sheet(sheet: Sheet, cells: usize) -> Check
     ensures { λ r. ⌜ r ≡ sheetTest (sheet .settings) cells (sheet .design .count) (partsOf (sheet .design)) ⌝ }
 {
-    let settings = sheet.settings;
-    let design = sheet.design;
-    let count = design.count;
-    let check = check_settings(settings, cells);
+    let count = sheet.design.count;
+    let check = check_settings(sheet.settings, cells);
     let Check::Passed = check else {
         return check;
     };
     if PARTS < count {
         return Check::Failed(AeroError::Broken(Rule::DesignFull));
     }
-    check_parts(design)
+    check_parts(sheet.design)
 }
