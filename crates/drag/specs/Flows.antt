@@ -1,6 +1,6 @@
 -- The friction in two steps, as the code takes them (specs/Friction has what comes out): what a Mach and a Reynolds number decide is worked out once, for walls of
 -- every roughness. `in-flow` says that the friction is the same, where the turbulent one is asked for or the roughness limits.
-use mathlib.Core.Path.{_≡_, refl, ap, _∙_}
+use mathlib.Core.Path.{_≡_, refl, ap}
 use mathlib.Core.Logic.{_⊎_, inl, inr}
 use mathlib.Core.Bool.{Bool, true, false, cond, false≢true}
 use lib.Ieee.{Float}

@@ -17,7 +17,6 @@ use Rattle.sheet_data.specs.declared.Settings.{Settings}
 use Rattle.sheet_data.specs.declared.PartRoughness.{PartRoughness}
 use Rattle.sheet_data.specs.declared.PartRoughness.the-variants.{OfSettings, Own}
 use Rattle.sheet_data.specs.declared.Part.{Part}
-use Rattle.sheet_data.specs.Layout.{most-columns}
 use Rattle.sheet_data.specs.Contents.{Contents, partAt, foreAt, machAt, reynoldsAt}
 use Rattle.drag_sheet.specs.Formulas.{valueOf}
 
@@ -53,17 +52,16 @@ flowAt flows k = getD flows k no-flow
 
 -- the flow of each column, for frictions on any wall
 pub record Flows (s : Settings) (flows : List Flow) : Type 0 where
-  pub long : length flows ≡ most-columns
   pub at : (k : ℕ) → k < s .count → flowAt flows k ≡ flowOf true (reynoldsAt s k) (machAt s k)
 
 -- friction × form factor, on a wall, and for a part of this roughness, `common` being that of the settings' roughness
 abbrev pub formed : Wall → Float → Flow → Float
 formed wall form flow = valueOf (frictionIn wall flow) ⊗ form
 
--- four more terms of a sum
-abbrev pub fourMore : Float → Float → Float → Float → Float → Float → Float
-fourMore sum x a b c d = sum ⊕ x ⊗ a ⊕ x ⊗ b ⊕ x ⊗ c ⊕ x ⊗ d
-
 abbrev pub formedFor : PartRoughness → Float → Float → Flow → Float
 formedFor OfSettings common form flow = common
 formedFor (Own x) common form flow = formed (wallOf x) form flow
+
+-- four more terms of a sum
+abbrev pub fourMore : Float → Float → Float → Float → Float → Float → Float
+fourMore sum x a b c d = sum ⊕ x ⊗ a ⊕ x ⊗ b ⊕ x ⊗ c ⊕ x ⊗ d

@@ -1,5 +1,5 @@
 -- `friction_on` meets its contract: the turbulent friction is asked for unless the roughness limits.
-use mathlib.Core.Path.{_≡_, refl, sym, ap, _∙_}
+use mathlib.Core.Path.{_≡_, refl, ap, _∙_}
 use mathlib.Core.Logic.{_⊎_, inl, inr}
 use mathlib.Core.Bool.{Bool, true, false, not}
 use Rattle.drag.specs.Flows.{flowOf, frictionIn, in-flow}

@@ -10,7 +10,6 @@ use Rattle.sheet_data.specs.Contents.{partAt}
 use Rattle.sheet_data.specs.Tables.{tab, tab-long, tab-same, tab-constant}
 use Rattle.drag_sheet.specs.Formulas.{sumTo}
 use Rattle.drag_sheet.proofs.Sums.{sum-none, terms-more, four-terms-more}
-use borrow.Author.Needs.{needs}
 use Rattle.drag_sheet.proofs.friction.add_common.Statement.{statement}
 use Rattle.drag_sheet.proofs.friction.add_common.Tie as tie
 

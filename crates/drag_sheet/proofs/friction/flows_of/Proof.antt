@@ -1,5 +1,4 @@
 -- `flows_of` meets its contract: the flows of the columns before i are there.
-use mathlib.Core.Path.{_≡_}
 use mathlib.Core.Bool.{true}
 use Prim.Native.Nat.{_-_, _≤_}
 use native.Mathlib.Omega.{arith}
@@ -24,7 +23,7 @@ loop-again c =
     (omega arith, fill-more _ _ (l .inv .1) (omega arith) (c .flow-of .ensures))
 
 returns : tie.Need-returns Inv-loop μ-loop
-returns c = let F = c .before .loop .inv .1 in record { long = F .long; at = λ k h. F .done no-flow k (omega arith) }
+returns c = record { at = λ k h. c .before .loop .inv .1 .done no-flow k (omega arith) }
 
 pub flows-of-spec : {M : Type 1} → statement M
 flows-of-spec =

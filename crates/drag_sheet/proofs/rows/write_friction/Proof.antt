@@ -1,5 +1,5 @@
 -- `write_friction` meets its contract: the row added up, put into its place.
-use mathlib.Core.Path.{_≡_, sym, ap, _∙_}
+use mathlib.Core.Path.{_≡_, ap, _∙_}
 use Prim.Native.Nat.{_+_}
 use native.Mathlib.Omega.{arith}
 use lib.ListN.{length, replicate, length-append}
