@@ -44,9 +44,11 @@ fn check_columns(settings: Settings) -> Check
     ensures { λ r. ⌜ r ≡ columnsTest settings ⌝ }
 {
     let count = settings.count;
+    let machs = settings.machs;
+    let reynolds = settings.reynolds;
     let mut i = 0usize;
     while i < count {
-        let check = drag::check_flow(settings.machs[i], settings.reynolds[i]);
+        let check = drag::check_flow(machs[i], reynolds[i]);
         let Check::Passed = check else {
             return check;
         };
@@ -117,9 +119,10 @@ fn check_parts(design: Design) -> Check
     ensures { λ r. ⌜ r ≡ partsTest (partsOf design) ⌝ }
 {
     let count = design.count;
+    let parts = design.parts;
     let mut place = 0usize;
     while place < count {
-        let part = design.parts[place];
+        let part = parts[place];
         let check = check_part(part);
         let Check::Passed = check else {
             return check;
@@ -133,13 +136,15 @@ fn check_parts(design: Design) -> Check
 pub fn check_sheet(sheet: Sheet, cells: usize) -> Check
     ensures { λ r. ⌜ r ≡ sheetTest (sheet .settings) cells (sheet .design .count) (partsOf (sheet .design)) ⌝ }
 {
-    let count = sheet.design.count;
-    let check = check_settings(sheet.settings, cells);
+    let settings = sheet.settings;
+    let design = sheet.design;
+    let count = design.count;
+    let check = check_settings(settings, cells);
     let Check::Passed = check else {
         return check;
     };
     if PARTS < count {
         return Check::Failed(AeroError::Broken(Rule::DesignFull));
     }
-    check_parts(sheet.design)
+    check_parts(design)
 }

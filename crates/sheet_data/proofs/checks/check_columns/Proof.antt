@@ -14,20 +14,20 @@ use Rattle.sheet_data.proofs.checks.check_columns.Statement.{statement}
 use Rattle.sheet_data.proofs.checks.check_columns.Tie as tie
 
 abbrev Inv-loop : tie.InvT-loop
-Inv-loop settings count i₀ i = (i ≤ count) × (upTo i (λ k. flowChecked (getD (settings .machs) k nan) (getD (settings .reynolds) k nan)) ≡ Passed)
+Inv-loop count machs reynolds i₀ i = (i ≤ count) × (upTo i (λ k. flowChecked (getD machs k nan) (getD reynolds k nan)) ≡ Passed)
 
 abbrev μ-loop : tie.MeasureT-loop
-μ-loop settings count i₀ i = count - i
+μ-loop count machs reynolds i₀ i = count - i
 
 returns : tie.Need-returns Inv-loop μ-loop
 unfolding columnsTest
 returns c =
-    let l = c .before .before .before .before .before .before .loop in
-    c .enum-told2 .given .1 ∙ sym (up-failed _ _ _ _ (l .inv .1) (sym (c .before .before .check-flow .ensures) ∙ c .enum-told2 .given .1) (c .before .before .before .before .before .loop-test .taken))
+    let l = c .before .before .before .before .loop in
+    c .enum-told2 .given .1 ∙ sym (up-failed _ _ _ _ (l .inv .1) (sym (c .before .before .check-flow .ensures) ∙ c .enum-told2 .given .1) (c .before .before .before .loop-test .taken))
 
 loop-again : tie.Need-loop-again Inv-loop μ-loop
 loop-again c =
-    (omega arith, up-more _ (c .before .before .before .before .before .before .loop .inv .1) (sym (c .before .before .check-flow .ensures) ∙ c .enum-told .given .1))
+    (omega arith, up-more _ (c .before .before .before .before .loop .inv .1) (sym (c .before .before .check-flow .ensures) ∙ c .enum-told .given .1))
 
 returns-2 : tie.Need-returns-2 Inv-loop μ-loop
 unfolding columnsTest

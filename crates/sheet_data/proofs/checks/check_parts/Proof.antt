@@ -14,19 +14,19 @@ use Rattle.sheet_data.proofs.checks.check_parts.Statement.{statement}
 use Rattle.sheet_data.proofs.checks.check_parts.Tie as tie
 
 abbrev Inv-loop : tie.InvT-loop
-Inv-loop design count place₀ place = (place ≤ count) × (upTo place (λ i. partTest (partAt (take count (design .parts)) i)) ≡ Passed)
+Inv-loop count parts place₀ place = (place ≤ count) × (upTo place (λ i. partTest (partAt (take count parts) i)) ≡ Passed)
 
 abbrev μ-loop : tie.MeasureT-loop
-μ-loop design count place₀ place = count - place
+μ-loop count parts place₀ place = count - place
 
 -- the array holds as many parts as are counted
-long : (s : tie.Start Inv-loop μ-loop) → length (take (s .args .t1 .count) (s .args .t1 .parts)) ≡ s .args .t1 .count
-long s = length-take-le (s .args .t1 .count) (s .args .t1 .parts) (omega (arith, simp length-map at (s .good .0 .1 .1 .1 .0 .1 .0 .1)))
+long : (s : tie.Start Inv-loop μ-loop) → length (take (s .args .design .count) (s .args .design .parts)) ≡ s .args .design .count
+long s = length-take-le (s .args .design .count) (s .args .design .parts) (omega (arith, simp length-map at (s .good .0 .1 .1 .1 .0 .1 .0 .1)))
 
 returns : tie.Need-returns Inv-loop μ-loop
 unfolding partsTest
 returns c =
-    let s = c .before .before .before .before .before .before in
+    let s = c .before .before .before .before .before .before .before in
     let l = c .before .before .before .before .before .loop in
     let h = c .before .before .before .before .loop-test .taken in
     c .enum-told2 .given .1 ∙ sym (up-failed _ _ _ _ (l .inv .1) (ap partTest (part-taken _ _ _ h) ∙ (sym (c .before .before .check-part .ensures) ∙ c .enum-told2 .given .1)) (omega (arith, long s)))
@@ -38,7 +38,7 @@ loop-again c =
 
 returns-2 : tie.Need-returns-2 Inv-loop μ-loop
 unfolding partsTest
-returns-2 c = let l = long (c .before .before) in up-end _ (omega arith) (omega arith) (c .before .loop .inv .1)
+returns-2 c = let l = long (c .before .before .before) in up-end _ (omega arith) (omega arith) (c .before .loop .inv .1)
 
 pub check-parts-spec : {M : Type 1} → statement M
 check-parts-spec =
