@@ -31,20 +31,26 @@ limitsAt wall R = cond (LOW-REYNOLDS ≼ R) (criticalBelow (wall .critical) R) f
 abbrev pub turbulentWhere : Bool → Float → Float
 turbulentWhere asked R = cond asked (turbulentFriction R) 0·0
 
--- a flow that passed its tests: eq. 3.82 below Mach 1, eq. 3.83 and 3.84 from there on
-abbrev flowing : Bool → Float → Float → Flow
-flowing asked R M =
-    let m2 = M ⊗ M in
-    cond (M ≺ 1·0)
-    (Subsonic R (turbulentWhere asked R) (1·0 ⊖ 0·1 ⊗ m2))
-    (Supersonic R (turbulentFriction R ⊘ POW (1·0 ⊕ 0·15 ⊗ m2) 0·58) (1·0 ⊕ 0·18 ⊗ m2))
+-- eq. 3.82's factor, eq. 3.84's, and eq. 3.83
+abbrev slowFactor : Float → Float
+slowFactor M = 1·0 ⊖ 0·1 ⊗ (M ⊗ M)
+
+abbrev fastFactor : Float → Float
+fastFactor M = 1·0 ⊕ 0·18 ⊗ (M ⊗ M)
+
+abbrev fastTurbulent : Float → Float → Float
+fastTurbulent R M = turbulentFriction R ⊘ POW (1·0 ⊕ 0·15 ⊗ (M ⊗ M)) 0·58
+
+-- a flow that passed its tests, below Mach 1 or not
+abbrev flowing : Bool → Bool → Float → Float → Flow
+flowing slow asked R M = cond slow (Subsonic R (turbulentWhere asked R) (slowFactor M)) (Supersonic R (fastTurbulent R M) (fastFactor M))
 
 abbrev afterTest : Check → Flow → Flow
 afterTest Passed flow = flow
 afterTest (Failed refusal) flow = NoFlow refusal
 
 unfoldable pub flowOf : Bool → Float → Float → Flow
-flowOf asked R M = afterTest (flowChecked M R) (flowing asked R M)
+flowOf asked R M = afterTest (flowChecked M R) (flowing (M ≺ 1·0) asked R M)
 
 -- the friction on a wall in a flow
 unfoldable pub frictionIn : Wall → Flow → Coefficient
@@ -78,11 +84,11 @@ pub in-flow : (wall : Wall) (asked : Bool) (R M : Float) → (asked ≡ true) �
 unfolding flowOf frictionIn frictionOn compressible
 in-flow wall asked R M h = both (flowChecked M R) (M ≺ 1·0)
   where
-    both : (check : Check) (slow : Bool)
-        → frictionIn wall (afterTest check (cond slow (Subsonic R (turbulentWhere asked R) (1·0 ⊖ 0·1 ⊗ (M ⊗ M))) (Supersonic R (turbulentFriction R ⊘ POW (1·0 ⊕ 0·15 ⊗ (M ⊗ M)) 0·58) (1·0 ⊕ 0·18 ⊗ (M ⊗ M)))))
+    both : (check : Check) (slow : Bool) → frictionIn wall (afterTest check (flowing slow asked R M))
         ≡ (check and-then onWall wall R λ limited rough.
-        cond slow (incompressible limited rough R ⊗ (1·0 ⊖ 0·1 ⊗ (M ⊗ M)))
-        (cond limited (maxOf (rough ⊘ (1·0 ⊕ 0·18 ⊗ (M ⊗ M))) (turbulentFriction R ⊘ POW (1·0 ⊕ 0·15 ⊗ (M ⊗ M)) 0·58)) (turbulentFriction R ⊘ POW (1·0 ⊕ 0·15 ⊗ (M ⊗ M)) 0·58)))
+        cond slow (incompressible limited rough R ⊗ slowFactor M) (cond limited (maxOf (rough ⊘ fastFactor M) (fastTurbulent R M)) (fastTurbulent R M)))
     both (Failed refusal) slow = refl
-    both Passed true = same-on-wall R (λ limited x. cond limited (wall .limited ⊗ (1·0 ⊖ 0·1 ⊗ (M ⊗ M))) (turbulentWhere asked R ⊗ (1·0 ⊖ 0·1 ⊗ (M ⊗ M)))) (λ limited rough. incompressible limited rough R ⊗ (1·0 ⊖ 0·1 ⊗ (M ⊗ M))) wall (below asked (limitsAt wall R) R (wall .limited) (1·0 ⊖ 0·1 ⊗ (M ⊗ M)) h)
+    both Passed true =
+        same-on-wall R (λ limited x. cond limited (wall .limited ⊗ slowFactor M) (turbulentWhere asked R ⊗ slowFactor M)) (λ limited rough. incompressible limited rough R ⊗ slowFactor M) wall
+        (below asked (limitsAt wall R) R (wall .limited) (slowFactor M) h)
     both Passed false = refl

@@ -14,8 +14,8 @@ use Rattle.sheet_data.specs.Contents.{Contents, contentsOf, partsOf, partAt, pa
 use Rattle.sheet_data.specs.Tables.{tab, tab-long, tab-same}
 use Rattle.sheet_data.specs.Rows.{from, rowAt, written}
 use Rattle.sheet_data.specs.RowLaws.{from-below, before-all, wrote, RowsDone, rows-next}
-use Rattle.drag_sheet.specs.Formulas.{preparedOf, frictionCell, baseCell}
-use Rattle.drag_sheet.specs.Body.{baseOver, baseArea}
+use Rattle.drag_sheet.specs.Formulas.{preparedOf, baseCell}
+use Rattle.drag_sheet.specs.Body.{baseOver, baseArea, frictionRow}
 use Rattle.drag_sheet.specs.Build.{kindCell, preparedAt, rowTestFrom, rowFrom, rowTest, rowOf}
 use Rattle.drag_sheet.specs.Writing.{Filled, there, totalThere}
 use Rattle.drag_sheet.specs.Edits.{RowAsked}
@@ -39,7 +39,7 @@ row-made sheet place f p l a e q h =
 -- ---- the rows of the whole body, as the functions fill them
 
 module _ (c : Contents) where
-  pub friction-made : (j : ℕ) → j < finishes → tab (c .settings .count) (λ k. frictionCell c (machAt (c .settings) k) (reynoldsAt (c .settings) k)) ≡ rowOf c (friction-row j)
+  pub friction-made : (j : ℕ) → j < finishes → frictionRow c ≡ rowOf c (friction-row j)
   unfolding kindCell
   friction-made j h = tab-same (c .settings .count) _ _ (λ k l. sym (ap (λ z. kindCell c z (machAt (c .settings) k) (reynoldsAt (c .settings) k)) (kind-friction finishes j h)))
 

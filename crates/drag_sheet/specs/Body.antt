@@ -3,10 +3,11 @@
 use mathlib.Core.Path.{_≡_}
 use mathlib.Core.Bool.{Bool, true, false, _||_}
 use mathlib.Core.List.{List}
-use Prim.Native.Nat.{ℕ, zero, suc, _<_}
-use lib.ListN.{length, getD}
+use Prim.Native.Nat.{ℕ, zero, suc, _≤_, _<_}
+use lib.ListN.{length, getD, replicate}
 use lib.Ieee.{Float, nan}
 use Rattle.elementary.specs.Arithmetic.{_⊕_, _⊗_, _⊘_}
+use Rattle.elementary.specs.Constants.{0·0}
 use Rattle.drag.specs.declared.Wall.{Wall}
 use Rattle.drag.specs.declared.Flow.{Flow}
 use Rattle.drag.specs.declared.Flow.the-variants.{Subsonic}
@@ -17,8 +18,11 @@ use Rattle.sheet_data.specs.declared.Settings.{Settings}
 use Rattle.sheet_data.specs.declared.PartRoughness.{PartRoughness}
 use Rattle.sheet_data.specs.declared.PartRoughness.the-variants.{OfSettings, Own}
 use Rattle.sheet_data.specs.declared.Part.{Part}
+use Rattle.sheet_data.specs.declared.Sheet.{Sheet}
+use Rattle.sheet_data.specs.Layout.{most-parts, most-columns}
 use Rattle.sheet_data.specs.Contents.{Contents, partAt, foreAt, machAt, reynoldsAt}
-use Rattle.drag_sheet.specs.Formulas.{valueOf}
+use Rattle.sheet_data.specs.Tables.{tab}
+use Rattle.drag_sheet.specs.Formulas.{valueOf, frictionCell}
 
 -- ---- the base
 
@@ -33,6 +37,15 @@ baseArea c =
     last ⊗ last ⊘ (D ⊗ D)
 
 -- ---- the friction
+
+-- the friction row, and what is asked of cells in which it is added up: one for each column, all +0
+abbrev pub frictionRow : Contents → List Float
+frictionRow c = tab (c .settings .count) (λ k. frictionCell c (machAt (c .settings) k) (reynoldsAt (c .settings) k))
+
+pub record SumAsked (sheet : Sheet) (sum : List Float) : Type 0 where
+  pub columns : sheet .settings .count ≤ most-columns
+  pub parts : sheet .design .count ≤ most-parts
+  pub zeros : sum ≡ replicate (sheet .settings .count) 0·0
 
 -- whether a roughness is a part's own, and whether any of the first n parts has one
 abbrev pub isOwn : PartRoughness → Bool

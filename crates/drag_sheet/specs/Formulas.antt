@@ -90,10 +90,13 @@ abbrev pub roughnessOf : PartRoughness → Float → Float
 roughnessOf OfSettings k = k
 roughnessOf (Own x) k = x
 
--- "(skin friction at that part's roughness × form factor) × w"
+-- "(skin friction at that part's roughness × form factor)", at roughness k
+abbrev pub formedFriction : Settings → Float → Float → Float → Float
+formedFriction s k M R = valueOf (skinFrictionCoefficient R k M) ⊗ valueOf (bodyFrictionFormFactor (s .«body_fineness»))
+
+-- "× w"
 abbrev pub partFriction : Settings → Part → Float → Float → Float
-partFriction s p M R =
-    valueOf (skinFrictionCoefficient R (roughnessOf (p .roughness) (s .roughness)) M) ⊗ valueOf (bodyFrictionFormFactor (s .«body_fineness»)) ⊗ p .«wetted_ratio»
+partFriction s p M R = formedFriction s (roughnessOf (p .roughness) (s .roughness)) M R ⊗ p .«wetted_ratio»
 
 -- "a sum by place from +0"
 unfoldable pub frictionCell : Contents → Float → Float → Float

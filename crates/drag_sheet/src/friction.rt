@@ -1,5 +1,5 @@
-// The friction row: what a roughness decides is worked out once for the row, what a Mach and a Reynolds number decide once for the column,
-// and the parts' frictions are added by place.
+// The friction row: what the settings' roughness or a part's own decides is worked out once for the row, what a Mach and a Reynolds number
+// decide once for the column, and the parts' frictions are added by place.
 ghost use mathlib.Core.Path.{_≡_};
 ghost use mathlib.Core.Bool.{false};
 ghost use Prim.Native.Nat.{_≤_};
@@ -9,10 +9,10 @@ ghost use Rattle.elementary.specs.Arithmetic.{_⊕_, _⊗_};
 ghost use Rattle.elementary.specs.Constants.{0·0};
 ghost use Rattle.drag.specs.Friction.{wallOf, frictionOn};
 ghost use Rattle.sheet_data.specs.Layout.{most-parts, most-columns};
-ghost use Rattle.sheet_data.specs.Contents.{contentsOf, partAt, machAt, reynoldsAt};
+ghost use Rattle.sheet_data.specs.Contents.{contentsOf, partAt};
 ghost use Rattle.sheet_data.specs.Tables.{tab};
-ghost use Rattle.drag_sheet.specs.Formulas.{valueOf, sumTo, frictionCell};
-ghost use Rattle.drag_sheet.specs.Body.{isOwn, anyOwn, flowAt, Flows, formed, formedFor, fourMore};
+ghost use Rattle.drag_sheet.specs.Formulas.{valueOf, sumTo};
+ghost use Rattle.drag_sheet.specs.Body.{frictionRow, SumAsked, isOwn, anyOwn, flowAt, Flows, formed, formedFor, fourMore};
 use crate::body::value_of;
 use drag::Flow;
 use drag::Wall;
@@ -184,8 +184,8 @@ fn add_common(design: Design, common: &[f64], sum: &mut [f64])
 
 // The friction row where parts have roughnesses of their own, added up in `sum`, which holds +0.
 fn sum_own(sheet: Sheet, sum: &mut [f64])
-    requires { ⌜ (sheet .settings .count ≤ most-columns) × (sheet .design .count ≤ most-parts) × (now sum ≡ replicate (sheet .settings .count) 0·0) ⌝ }
-    ensures { λ _. ⌜ now (sum .exit) ≡ tab (sheet .settings .count) (λ k. frictionCell (contentsOf sheet) (machAt (sheet .settings) k) (reynoldsAt (sheet .settings) k)) ⌝ }
+    requires { ⌜ SumAsked sheet (now sum) ⌝ }
+    ensures { λ _. ⌜ now (sum .exit) ≡ frictionRow (contentsOf sheet) ⌝ }
 {
     let settings = sheet.settings;
     let design = sheet.design;
@@ -204,8 +204,8 @@ fn sum_own(sheet: Sheet, sum: &mut [f64])
 
 // The same where none has.
 fn sum_common(sheet: Sheet, sum: &mut [f64])
-    requires { ⌜ (sheet .settings .count ≤ most-columns) × (sheet .design .count ≤ most-parts) × (now sum ≡ replicate (sheet .settings .count) 0·0) × (anyOwn (sheet .design .count) (sheet .design .parts) ≡ false) ⌝ }
-    ensures { λ _. ⌜ now (sum .exit) ≡ tab (sheet .settings .count) (λ k. frictionCell (contentsOf sheet) (machAt (sheet .settings) k) (reynoldsAt (sheet .settings) k)) ⌝ }
+    requires { ⌜ SumAsked sheet (now sum) × (anyOwn (sheet .design .count) (sheet .design .parts) ≡ false) ⌝ }
+    ensures { λ _. ⌜ now (sum .exit) ≡ frictionRow (contentsOf sheet) ⌝ }
 {
     let settings = sheet.settings;
     let count = settings.count;
@@ -226,8 +226,8 @@ fn sum_common(sheet: Sheet, sum: &mut [f64])
 
 // The friction row, added up in `sum`, which holds +0.
 pub(crate) fn sum_parts(sheet: Sheet, sum: &mut [f64])
-    requires { ⌜ (sheet .settings .count ≤ most-columns) × (sheet .design .count ≤ most-parts) × (now sum ≡ replicate (sheet .settings .count) 0·0) ⌝ }
-    ensures { λ _. ⌜ now (sum .exit) ≡ tab (sheet .settings .count) (λ k. frictionCell (contentsOf sheet) (machAt (sheet .settings) k) (reynoldsAt (sheet .settings) k)) ⌝ }
+    requires { ⌜ SumAsked sheet (now sum) ⌝ }
+    ensures { λ _. ⌜ now (sum .exit) ≡ frictionRow (contentsOf sheet) ⌝ }
 {
     if any_own(sheet.design) {
         sum_own(sheet, sum);

@@ -43,7 +43,7 @@ add-common-requires : tie.Need-add-common-requires
 add-common-requires c κs =
     let f = c .before .before .before in
     let s = f .before .before .before .before .before .before .before .before .before .before .before in
-    rw (take-at (f .fill-once .last .1 .1 .1 .1 .0) _ (s .args .sheet .settings .count) (fill-long f), fill-long f) (s .pre .1, s .pre .2)
+    rw (take-at (f .fill-once .last .1 .1 .1 .1 .0) _ (s .args .sheet .settings .count) (fill-long f), fill-long f) (s .pre .0 .parts, s .pre .0 .zeros)
 
 returns : tie.Need-returns
 returns c =
@@ -53,7 +53,7 @@ returns c =
     let S = s .args .sheet .settings in
     c .before .before .add-common .ensures
     ∙ rw (take-at (f .fill-once .last .1 .1 .1 .1 .0) _ (S .count) (fill-long f))
-    (common-added (s .args .sheet) (omega (arith, long s .parts)) _ (s .pre .3)
+    (common-added (s .args .sheet) (omega (arith, long s .parts)) _ (s .pre .1)
     (f .fill-once .ensures
     ∙ rw (← prefix-long (S .count) (replicate most-columns 0·0) (omega arith)) (once-filled S _ _ (w .wall-of .ensures) (w .before .value-of .ensures ∙ ap valueOf (w .before .before .body-friction-form-factor .ensures)))))
 

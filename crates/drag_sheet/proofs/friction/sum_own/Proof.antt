@@ -27,7 +27,7 @@ add-by-place-requires : tie.Need-add-by-place-requires
 add-by-place-requires c κs =
     let f = c .before .before .before in
     let s = f .before .before .before .before .before .before .before .before .before in
-    rw (take-at (f .fill-on .last .1 .1 .1 .0) _ (s .args .sheet .settings .count) (fill-long f), fill-long f) (s .pre .1, s .pre .0, s .pre .2)
+    rw (take-at (f .fill-on .last .1 .1 .1 .0) _ (s .args .sheet .settings .count) (fill-long f), fill-long f) (s .pre .parts, s .pre .columns, s .pre .zeros)
 
 returns : tie.Need-returns
 returns c =

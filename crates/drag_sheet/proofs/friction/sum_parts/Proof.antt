@@ -7,7 +7,7 @@ use Rattle.drag_sheet.proofs.friction.sum_parts.Tie as tie
 sum-common-requires : tie.Need-sum-common-requires
 sum-common-requires c κs =
     let s = c .before .before .before .before in
-    (s .pre .0, s .pre .1, s .pre .2, sym (c .before .before .any-own .ensures) ∙ c .before .if1 .left)
+    (s .pre, sym (c .before .before .any-own .ensures) ∙ c .before .if1 .left)
 
 pub sum-parts-spec : {M : Type 1} → statement M
 sum-parts-spec =

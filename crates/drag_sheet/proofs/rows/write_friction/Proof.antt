@@ -21,7 +21,7 @@ sum-long c = ap length (c .sum-parts .ensures) ∙ tab-long _ _
 sum-parts-requires : tie.Need-sum-parts-requires
 sum-parts-requires c κs =
     let s = c .before .before .before .before in
-    (s .pre .0 .columns, s .pre .0 .parts, zeros 0·0 (s .args .sheet .settings .count) most-columns (s .pre .0 .columns))
+    record { columns = s .pre .0 .columns; parts = s .pre .0 .parts; zeros = zeros 0·0 (s .args .sheet .settings .count) most-columns (s .pre .0 .columns) }
 
 write-row-requires : tie.Need-write-row-requires
 write-row-requires c κs =
