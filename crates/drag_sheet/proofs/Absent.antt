@@ -32,7 +32,8 @@ use Rattle.sheet_data.specs.declared.Part.{Part}
 use Rattle.sheet_data.specs.Layout.{most-parts, most-columns, needed}
 use Rattle.sheet_data.specs.Contents.{partAt}
 use Rattle.sheet_data.specs.Tests.{inInterval, ownTest, bodyTest, columnsTest, settingsTest, partTest, partsTest}
-use Rattle.drag_sheet.specs.Calls.{Call, replace, insert, remove, setColumn, argumentsTest}
+use Rattle.drag_sheet.specs.Calls.{Call, replace, insert, remove, setColumn, ignite, burnout, argumentsTest}
+use Rattle.drag_sheet.proofs.Verdicts.{never}
 use Rattle.drag_sheet.proofs.Refusals.{then-failed, unless-failed}
 
 -- ---- tests that don't give refusal n, for n from 8 to 9
@@ -107,6 +108,8 @@ Absent (replace place p) s count = count ≤ place
 Absent (insert place p) s count = count < place
 Absent (remove place) s count = count ≤ place
 Absent (setColumn k M R) s count = s .count ≤ k
+Absent (ignite n) s count = ⊥
+Absent burnout s count = ⊥
 
 -- "9": a new part where 16 stand
 abbrev pub Full : Call → ℕ → Type 0
@@ -114,6 +117,8 @@ Full (replace place p) count = ⊥
 Full (insert place p) count = (place ≤ count) × (count ≡ 16)
 Full (remove place) count = ⊥
 Full (setColumn k M R) count = ⊥
+Full (ignite n) count = ⊥
+Full burnout count = ⊥
 
 other-8 : (broken : Bool) → Other 9 (unless broken NoSuchPlace)
 other-8 broken = other-unless 9 broken NoSuchPlace (λ q. omega arith)
@@ -135,6 +140,8 @@ arguments-9 (insert place p) s count few = (
 arguments-9 (remove place) s count few = ((λ e. apart (other-8 (leb count place)) refl e), (λ h. absurd h))
 arguments-9 (setColumn k M R) s count few =
     ((λ e. apart (other-then 9 (unless (leb (s .count) k) NoSuchPlace) _ (other-8 (leb (s .count) k)) (other-flow 9 (omega arith) (omega arith) M R)) refl e), (λ h. absurd h))
+arguments-9 (ignite n) s count few = ((λ e. apart (other-interval 9 (omega arith) (omega arith) _ n _) refl e), (λ h. absurd h))
+arguments-9 burnout s count few = ((λ e. never e refl), (λ h. absurd h))
 
 -- 8 is the answer exactly where the place or the column isn't there
 pub arguments-8 : (call : Call) (s : Settings) (count : ℕ) → (argumentsTest call s count ≡ Failed (Broken NoSuchPlace)) ↔ Absent call s count
@@ -154,3 +161,5 @@ arguments-8 (setColumn k M R) s count = (
   (λ e. ⊎-elim (λ a. leb-true (s .count) k (unless-failed _ NoSuchPlace a)) (λ b. apart (other-flow 8 (omega arith) (omega arith) M R) refl (b .1)) (then-failed (unless (leb (s .count) k) NoSuchPlace) _ e)),
   (λ h. rw (le-leb (s .count) k h)),
 )
+arguments-8 (ignite n) s count = ((λ e. apart (other-interval 8 (omega arith) (omega arith) _ n _) refl e), (λ h. absurd h))
+arguments-8 burnout s count = ((λ e. never e refl), (λ h. absurd h))

@@ -18,11 +18,11 @@ use Rattle.sheet_data.specs.declared.Settings.{Settings}
 use Rattle.sheet_data.specs.declared.Sheet.{Sheet}
 use Rattle.sheet_data.specs.Layout.{most-parts, most-columns, needed}
 use Rattle.sheet_data.specs.Contents.{Contents, contentsOf, blank, Fits}
-use Rattle.sheet_data.specs.Tests.{bodyTest, columnsTest, settingsTest, partTest, sheetTest}
+use Rattle.sheet_data.specs.Tests.{bodyTest, columnsTest, settingsTest, nozzleTest, partTest, sheetTest}
 use Rattle.drag_sheet.specs.declared.Answer.{Answer}
 use Rattle.drag_sheet.specs.Build.{trial}
 use Rattle.drag_sheet.specs.Writing.{chosen, whole, overwritten}
-use Rattle.drag_sheet.specs.Calls.{Call, replace, insert, remove, setColumn, argumentsTest, tries, scope, after, callTest, sheetWith, answered, Called, Opened}
+use Rattle.drag_sheet.specs.Calls.{Call, replace, insert, remove, setColumn, ignite, burnout, argumentsTest, tries, scope, after, callTest, sheetWith, answered, Called, Opened}
 use Rattle.drag_sheet.specs.Edits.{Rewritten}
 
 -- ---- what passed tests show
@@ -35,12 +35,13 @@ settings-facts s cells e =
     let d = both-passed (columnsTest s) _ (b .second) in
     (ltb-false most-columns (s .count) (unless-passed _ TooManyColumns (a .first)), ltb-false cells (needed (s .count)) (unless-passed _ TooFewCells (d .second)))
 
-pub sheet-fits : (sheet : Sheet) (cells : ℕ) → sheetTest (sheet .settings) cells (sheet .design .count) (contentsOf sheet .parts) ≡ Passed → Fits sheet cells
+pub sheet-fits : (sheet : Sheet) (cells : ℕ) → sheetTest (contentsOf sheet) cells (sheet .design .count) ≡ Passed → Fits sheet cells
 unfolding sheetTest
 sheet-fits sheet cells e =
     let a = both-passed (settingsTest (sheet .settings) cells) _ e in
     let f = settings-facts (sheet .settings) cells (a .first) in
-    let b = both-passed (unless (ltb most-parts (sheet .design .count)) DesignFull) _ (a .second) in
+    let n = both-passed (nozzleTest (sheet .«nozzle_diameter»)) _ (a .second) in
+    let b = both-passed (unless (ltb most-parts (sheet .design .count)) DesignFull) _ (n .second) in
     record { columns = f .0; parts = ltb-false most-parts (sheet .design .count) (unless-passed _ DesignFull (b .first)); room = f .1 }
 
 pub record Facts (call : Call) (sheet : Sheet) (cells : ℕ) : Type 0 where
@@ -49,7 +50,7 @@ pub record Facts (call : Call) (sheet : Sheet) (cells : ℕ) : Type 0 where
 
 pub call-facts : (call : Call) (sheet : Sheet) (cells : ℕ) → callTest call sheet cells ≡ Passed → Facts call sheet cells
 call-facts call sheet cells e =
-    let a = both-passed (sheetTest (sheet .settings) cells (sheet .design .count) (contentsOf sheet .parts)) _ e in
+    let a = both-passed (sheetTest (contentsOf sheet) cells (sheet .design .count)) _ e in
     record { fits = sheet-fits sheet cells (a .first); arguments = a .second }
 
 -- what a call's arguments are then
@@ -58,6 +59,8 @@ Bounds (replace place p) s count = place < count
 Bounds (insert place p) s count = (place ≤ count) × (count < most-parts)
 Bounds (remove place) s count = place < count
 Bounds (setColumn k M R) s count = k < s .count
+Bounds (ignite n) s count = Unit {0}
+Bounds burnout s count = Unit {0}
 
 pub bounds : (call : Call) (s : Settings) (count : ℕ) → argumentsTest call s count ≡ Passed → Bounds call s count
 bounds (replace place p) s count e = leb-false count place (unless-passed _ _ (both-passed (unless (leb count place) _) (partTest p) e .first))
@@ -67,6 +70,8 @@ bounds (insert place p) s count e =
     (ltb-false count place (unless-passed _ NoSuchPlace (a .first)), leb-false most-parts count (unless-passed _ DesignFull (b .first)))
 bounds (remove place) s count e = leb-false count place (unless-passed _ NoSuchPlace e)
 bounds (setColumn k M R) s count e = leb-false (s .count) k (unless-passed _ NoSuchPlace (both-passed (unless (leb (s .count) k) NoSuchPlace) (flowChecked M R) e .first))
+bounds (ignite n) s count e = tt
+bounds burnout s count e = tt
 
 -- ---- the contract
 
@@ -79,7 +84,7 @@ called call sheet xs r ys test new p t n a l = record { answer = a ∙ rw (n, p,
 
 -- the sheet that is left has the contents that are left
 pub contents-with : (c : Contents) (sheet : Sheet) → contentsOf (sheetWith c sheet) ≡ c
-contents-with c sheet = ap (λ ps. record { settings = c .settings; parts = ps }) (take-at (c .parts) (drop (length (c .parts)) (sheet .design .parts)) (length (c .parts)) refl)
+contents-with c sheet = ap (λ ps. record { settings = c .settings; parts = ps; nozzle = c .nozzle }) (take-at (c .parts) (drop (length (c .parts)) (sheet .design .parts)) (length (c .parts)) refl)
 
 -- all rows written
 pub called-whole : (call : Call) (sheet left : Sheet) (xs : List Float) (r : Answer) (ys : List Float) → callTest call sheet (length xs) ≡ Passed → left ≡ sheetWith (after call sheet) sheet

@@ -17,12 +17,12 @@ use Rattle.sheet_data.specs.Contents.{no-part, partAt}
 use Rattle.drag_sheet.specs.Formulas.{roughnessOf, partFriction, frictionCell}
 use Rattle.drag_sheet.proofs.Sums.{sum-none, sum-more, sum-same}
 
-module _ (s : Settings) (M R : Float) where
-  pub no-parts : frictionCell (record { settings = s; parts = [] }) M R ≡ 0·0
+module _ (s : Settings) (n M R : Float) where
+  pub no-parts : frictionCell (record { settings = s; parts = []; nozzle = n }) M R ≡ 0·0
   unfolding frictionCell
   no-parts = sum-none _
 
-  pub one-more : (ps : List Part) (p : Part) → frictionCell (record { settings = s; parts = ps ++ (p ∷ []) }) M R ≡ frictionCell (record { settings = s; parts = ps }) M R ⊕ partFriction s p M R
+  pub one-more : (ps : List Part) (p : Part) → frictionCell (record { settings = s; parts = ps ++ (p ∷ []); nozzle = n }) M R ≡ frictionCell (record { settings = s; parts = ps; nozzle = n }) M R ⊕ partFriction s p M R
   unfolding frictionCell
   one-more ps p =
       let long : length (ps ++ (p ∷ [])) ≡ length ps + 1 = simp length-append (omega arith) in
@@ -43,8 +43,8 @@ same-roughness : (r : PartRoughness) (k other : Float) → roughnessOf (writtenA
 same-roughness OfSettings k other = refl
 same-roughness (Own x) k other = refl
 
-pub written-out : (s t : Settings) (ps qs : List Part) (M R : Float) → t .«body_fineness» ≡ s .«body_fineness» → length qs ≡ length ps
-    → ((i : ℕ) → i < length ps → WrittenOut (s .roughness) (partAt ps i) (partAt qs i)) → frictionCell (record { settings = t; parts = qs }) M R ≡ frictionCell (record { settings = s; parts = ps }) M R
+pub written-out : (s t : Settings) (ps qs : List Part) (n M R : Float) → t .«body_fineness» ≡ s .«body_fineness» → length qs ≡ length ps
+    → ((i : ℕ) → i < length ps → WrittenOut (s .roughness) (partAt ps i) (partAt qs i)) → frictionCell (record { settings = t; parts = qs; nozzle = n }) M R ≡ frictionCell (record { settings = s; parts = ps; nozzle = n }) M R
 unfolding frictionCell
-written-out s t ps qs M R B long out =
+written-out s t ps qs n M R B long out =
     rw long (sum-same (length ps) _ _ (λ i h. rw (B, out i h .wetted, out i h .roughness, same-roughness (partAt ps i .roughness) (s .roughness) (t .roughness))))

@@ -20,7 +20,7 @@ use Rattle.sheet_data.specs.Contents.{Contents, contentsOf, partsOf}
 use Rattle.sheet_data.specs.Rows.{rowAt}
 use Rattle.drag_sheet.specs.declared.Answer.{Answer}
 use Rattle.drag_sheet.specs.Writing.{overwritten}
-use Rattle.drag_sheet.specs.Calls.{Call, replace, insert, remove, setColumn, applied, scope, tries, after, callTest, decision, sheetWith, Called}
+use Rattle.drag_sheet.specs.Calls.{Call, replace, insert, remove, setColumn, ignite, burnout, applied, scope, tries, after, callTest, decision, sheetWith, Called}
 use Rattle.drag_sheet.specs.Lists.{Arrays}
 use Rattle.drag_sheet.proofs.Verdicts.{never}
 use Rattle.drag_sheet.proofs.Slots.{inserted-long, removed-long}
@@ -55,6 +55,8 @@ parts-few (replace place p) c b few = rw (length-set (c .parts) place p) few
 parts-few (insert place p) c b few = omega (arith, inserted-long (c .parts) place p (b .0), b .1)
 parts-few (remove place) c b few = omega (arith, removed-long (c .parts) place b)
 parts-few (setColumn k M R) c b few = few
+parts-few (ignite n) c b few = few
+parts-few burnout c b few = few
 
 -- ---- what an accepted call has shown
 
@@ -83,6 +85,8 @@ same-width (replace place p) c = refl
 same-width (insert place p) c = refl
 same-width (remove place) c = refl
 same-width (setColumn k M R) c = refl
+same-width (ignite n) c = refl
+same-width burnout c = refl
 
 -- an accepted call keeps the number of columns, the number of cells, and what lies past the rows
 pub record Left (call : Call) (sheet : Sheet) (xs : List Float) : Type 0 where

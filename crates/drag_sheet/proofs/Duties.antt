@@ -11,20 +11,21 @@ use lib.ListN.{length, set, length-set}
 use lib.Seq.{getD-set-other}
 use lib.Ieee.{Float}
 use borrow.Author.Tests.{lt-ltb, le-ltb}
+use Rattle.elementary.specs.Constants.{0·0}
 use Rattle.aero_error.specs.declared.Check.the-variants.{Passed}
 use Rattle.aero_error.specs.Checks.{_then_, upTo}
 use Rattle.aero_error.specs.CheckLaws.{both-passed, then-passed, up-each, up-only, up-two, up-same}
 use Rattle.sheet_data.specs.declared.Part.{Part}
-use Rattle.sheet_data.specs.Layout.{most-parts, finishes, friction-row, total-row}
+use Rattle.sheet_data.specs.Layout.{most-parts, finishes, friction-row, base-row, total-row}
 use Rattle.sheet_data.specs.Contents.{Contents, foreAt, machAt, reynoldsAt}
 use Rattle.sheet_data.specs.Tables.{tab-same}
 use Rattle.sheet_data.specs.Rows.{from, Unnamed, Below}
 use Rattle.sheet_data.specs.RowLaws.{before-all, below-append, unnamed-append}
 use Rattle.drag_sheet.specs.Formulas.{cellFrom, readyTest, madeTest, frictionCell, baseCell}
 use Rattle.drag_sheet.specs.Build.{Kind, part, friction, base, total, kindAt, preparedAt, partCell, kindCell, rowTest, trial, cellAt, rowOf}
-use Rattle.drag_sheet.specs.Writing.{overwritten}
-use Rattle.drag_sheet.specs.Calls.{Call, replace, insert, remove, setColumn, applied, tries, columnTrial, replacedRows, bodyRows, scope}
-use Rattle.drag_sheet.proofs.RowKinds.{kind-part}
+use Rattle.drag_sheet.specs.Writing.{rows, overwritten}
+use Rattle.drag_sheet.specs.Calls.{Call, replace, insert, remove, setColumn, ignite, burnout, withNozzle, applied, tries, columnTrial, replacedRows, nozzleRows, bodyRows, scope}
+use Rattle.drag_sheet.proofs.RowKinds.{kind-part, same-trial, above-base}
 use Rattle.drag_sheet.proofs.Columns.{same-mach, same-reynolds}
 use Rattle.drag_sheet.proofs.Overwritten.{Holds, Inside, rows-hold, column-holds, whole-holds}
 use Rattle.drag_sheet.proofs.Laying.{body-below, body-outside}
@@ -118,6 +119,19 @@ module _ (c : Contents) (k : ℕ) (M R : Float) where
       let b = both-passed (readyTest (preparedAt c i)) _ (up-each _ (length (c .parts)) ok i l) in
       ap (λ t. readyTest (preparedAt c i) then t) (sym (up-only _ k (c .settings .count) h (λ j m u. rw (same-mach (c .settings) k M R j u) (up-each _ (c .settings .count) (b .second) j m)))))
 
+-- ---- ignite and burnout
+
+nozzle-below : Below (total-row finishes 0) nozzleRows
+nozzle-below = (omega arith, tt)
+
+module _ (n : Float) (c : Contents) where
+  -- no part's row depends on the nozzle diameter
+  nozzle-tries : trial c ≡ Passed → Passed ≡ trial (withNozzle n c)
+  nozzle-tries ok = sym (same-trial n c ∙ ok)
+
+  nozzle-holds : (xs : List Float) → Holds c xs → Holds (withNozzle n c) (overwritten (rows nozzleRows) (withNozzle n c) xs)
+  nozzle-holds xs h = rows-hold (withNozzle n c) xs (h .room) nozzleRows nozzle-below (λ r l u. let k : r ≢ base-row finishes = u .0 in h .rows r (omega arith) ∙ sym (above-base n c r (omega arith)))
+
 -- ---- every call
 
 -- the rows that a call tries decide, where the rows of what stood could be built
@@ -127,12 +141,16 @@ narrow (replace place p) c b ok = replace-tries c place p b ok
 narrow (insert place p) c b ok = refl
 narrow (remove place) c b ok = refl
 narrow (setColumn k M R) c b ok = column-tries c k M R b ok
+narrow (ignite n) c b ok = nozzle-tries n c ok
+narrow burnout c b ok = nozzle-tries 0·0 c ok
 
 pub scope-inside : (call : Call) (c : Contents) → Bounds call (c .settings) (length (c .parts)) → length (c .parts) ≤ most-parts → Inside (scope call (applied call c)) (c .settings .count)
 scope-inside (replace place p) c b few = rw (length-set (c .parts) place p) (replace-below c place p b few)
 scope-inside (insert place p) c b few = tt
 scope-inside (remove place) c b few = tt
 scope-inside (setColumn k M R) c b few = b
+scope-inside (ignite n) c b few = nozzle-below
+scope-inside burnout c b few = nozzle-below
 
 -- THE LAW over calls
 pub call-holds : (call : Call) (c : Contents) (xs : List Float) → Bounds call (c .settings) (length (c .parts)) → length (c .parts) ≤ most-parts → Holds c xs
@@ -143,3 +161,5 @@ call-holds (replace place p) c xs b few h =
 call-holds (insert place p) c xs b few h = whole-holds (applied (insert place p) c) xs (h .room)
 call-holds (remove place) c xs b few h = whole-holds (applied (remove place) c) xs (h .room)
 call-holds (setColumn k M R) c xs b few h = column-holds (applied (setColumn k M R) c) xs (h .room) k c refl h (other-column c k M R)
+call-holds (ignite n) c xs b few h = nozzle-holds n c xs h
+call-holds burnout c xs b few h = nozzle-holds 0·0 c xs h

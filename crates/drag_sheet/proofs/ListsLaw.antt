@@ -21,7 +21,7 @@ use Rattle.sheet_data.specs.Tests.{settingsTest, sheetTest}
 use Rattle.drag_sheet.specs.declared.Answer.{Answer}
 use Rattle.drag_sheet.specs.Build.{trial}
 use Rattle.drag_sheet.specs.Writing.{whole, overwritten}
-use Rattle.drag_sheet.specs.Calls.{Call, replace, insert, remove, setColumn, argumentsTest, scope, after, callTest, decision, sheetWith, answered, Called, Opened}
+use Rattle.drag_sheet.specs.Calls.{Call, replace, insert, remove, setColumn, ignite, burnout, argumentsTest, scope, after, callTest, decision, sheetWith, answered, Called, Opened}
 use Rattle.drag_sheet.specs.Model.{openedModel, modelDecision, moved, modelAfter, modelDecisions}
 use Rattle.drag_sheet.specs.Lists.{Sequence, stop, go, Arrays, Matches, Agrees, FromOpen}
 use Rattle.drag_sheet.proofs.Overwritten.{Holds, holds-build, whole-holds, keeps}
@@ -50,7 +50,7 @@ same-decision lent C sheet xs call k =
     let s = sheet .settings in
     let n = sheet .design .count in
     by (callTest call sheet (length xs)) refl
-    ∙ then-assoc (sheetTest s (length xs) n (partsOf (sheet .design))) (argumentsTest call s n) (trial (after call sheet))
+    ∙ then-assoc (sheetTest (contentsOf sheet) (length xs) n) (argumentsTest call s n) (trial (after call sheet))
     ∙ rw (parts-long lent C sheet xs k, k .long)
   where
     by : (d : Check) → callTest call sheet (length xs) ≡ d → decision call sheet (length xs) ≡ (callTest call sheet (length xs) then trial (after call sheet))
@@ -68,12 +68,16 @@ arrays-after call sheet z few = record { machs = machs call; reynolds = reynolds
     machs (insert place p) = z .machs
     machs (remove place) = z .machs
     machs (setColumn k M R) = length-set (sheet .settings .machs) k M ∙ z .machs
+    machs (ignite n) = z .machs
+    machs burnout = z .machs
 
     reynolds : (call : Call) → length (after call sheet .settings .reynolds) ≡ most-columns
     reynolds (replace place p) = z .reynolds
     reynolds (insert place p) = z .reynolds
     reynolds (remove place) = z .reynolds
     reynolds (setColumn k M R) = length-set (sheet .settings .reynolds) k R ∙ z .reynolds
+    reynolds (ignite n) = z .reynolds
+    reynolds burnout = z .reynolds
 
     slots : length (after call sheet .parts ++ drop (length (after call sheet .parts)) (sheet .design .parts)) ≡ most-parts
     slots = simp (length-append, length-drop) (omega (arith, z .slots))

@@ -14,8 +14,8 @@ use Rattle.sheet_data.specs.Contents.{Contents, contentsOf, partsOf, partAt, pa
 use Rattle.sheet_data.specs.Tables.{tab, tab-long, tab-same}
 use Rattle.sheet_data.specs.Rows.{from, rowAt, written}
 use Rattle.sheet_data.specs.RowLaws.{from-below, before-all, wrote, RowsDone, rows-next}
-use Rattle.drag_sheet.specs.Formulas.{preparedOf, baseCell}
-use Rattle.drag_sheet.specs.Body.{baseOver, baseArea, frictionRow}
+use Rattle.drag_sheet.specs.Formulas.{preparedOf, baseArea, baseCell}
+use Rattle.drag_sheet.specs.Body.{baseOver, frictionRow}
 use Rattle.drag_sheet.specs.Build.{kindCell, preparedAt, rowTestFrom, rowFrom, rowTest, rowOf}
 use Rattle.drag_sheet.specs.Writing.{Filled, there, totalThere}
 use Rattle.drag_sheet.specs.Edits.{RowAsked}

@@ -18,15 +18,15 @@ use Rattle.drag_sheet.specs.Calls.{withColumn, columnTrial}
 use Rattle.drag_sheet.specs.Edits.{oneColumn}
 use Rattle.drag_sheet.proofs.Columns.{new-mach, new-reynolds}
 
-module _ (s : Settings) (ps : List Part) (k : ℕ) (M R : Float) (machs : k < length (s .machs)) (reynolds : k < length (s .reynolds)) where
+module _ (s : Settings) (ps : List Part) (n : Float) (k : ℕ) (M R : Float) (machs : k < length (s .machs)) (reynolds : k < length (s .reynolds)) where
   -- the sheet with that column alone, and the sheet with that column put anew
   abbrev lone : Contents
-  lone = record { settings = oneColumn s M R; parts = ps }
+  lone = record { settings = oneColumn s M R; parts = ps; nozzle = n }
 
   abbrev put : Contents
-  put = record { settings = withColumn s k M R; parts = ps }
+  put = record { settings = withColumn s k M R; parts = ps; nozzle = n }
 
-  pub column-tried : trial (record { settings = oneColumn s M R; parts = ps }) ≡ columnTrial k (record { settings = withColumn s k M R; parts = ps })
+  pub column-tried : trial (record { settings = oneColumn s M R; parts = ps; nozzle = n }) ≡ columnTrial k (record { settings = withColumn s k M R; parts = ps; nozzle = n })
   unfolding trial rowTest columnTrial
   column-tried = up-same _ _ (length ps) (λ i l. ap (λ t. readyTest (preparedAt lone i) then t) (up-one _ ∙ rw (new-mach s k M R machs)))
 
@@ -43,6 +43,6 @@ module _ (s : Settings) (ps : List Part) (k : ℕ) (M R : Float) (machs : k < le
   one-each zero f g h = refl
   one-each (suc n) f g h = rw (h 0, one-each n (λ r. f (suc r)) (λ r. g (suc r)) (λ r. h (suc r)))
 
-  pub column-built : build (record { settings = oneColumn s M R; parts = ps }) ≡ tab (all-rows finishes) (λ r. cellAt (record { settings = withColumn s k M R; parts = ps }) r k)
+  pub column-built : build (record { settings = oneColumn s M R; parts = ps; nozzle = n }) ≡ tab (all-rows finishes) (λ r. cellAt (record { settings = withColumn s k M R; parts = ps; nozzle = n }) r k)
   unfolding build
   column-built = one-each (all-rows finishes) (cellAt lone) (λ r. cellAt put r k) (λ r. same-kind (kindAt finishes r) ∙ rw (new-mach s k M R machs, new-reynolds s k M R reynolds))

@@ -34,14 +34,14 @@ use Rattle.sheet_data.specs.declared.Part.{Part}
 use Rattle.sheet_data.specs.declared.Sheet.{Sheet}
 use Rattle.sheet_data.specs.Layout.{most-parts, most-columns}
 use Rattle.sheet_data.specs.Contents.{Contents, contentsOf, partAt, foreAt, machAt, reynoldsAt}
-use Rattle.sheet_data.specs.Tests.{0·001, 100·0, inInterval, bodyTest, columnsTest, settingsTest, partTest, partsTest, sheetTest}
+use Rattle.sheet_data.specs.Tests.{0·001, 100·0, inInterval, bodyTest, columnsTest, settingsTest, nozzleTest, partTest, partsTest, sheetTest}
 use Rattle.sheet_data.proofs.Held.{inside, given-own}
 use Rattle.drag_sheet.specs.declared.part.Row.the-variants.{Widening, Narrowing, Level}
 use Rattle.drag_sheet.specs.declared.part.Prepared.{Prepared}
 use Rattle.drag_sheet.specs.declared.part.Prepared.the-variants.{Ready, Refused as NotReady}
 use Rattle.drag_sheet.specs.Formulas.{areaRatio, withCurve, preparedOf, cellOf, cellFrom, readyTest, madeTest, roughnessOf}
 use Rattle.drag_sheet.specs.Build.{preparedAt, rowTest, trial}
-use Rattle.drag_sheet.specs.Calls.{Call, replace, insert, remove, setColumn, applied, argumentsTest, rowTestWhere, columnTrial, tries, after, callTest, decision}
+use Rattle.drag_sheet.specs.Calls.{Call, replace, insert, remove, setColumn, ignite, burnout, applied, argumentsTest, rowTestWhere, columnTrial, tries, after, callTest, decision}
 use Rattle.drag_sheet.proofs.Verdicts.{never}
 use Rattle.drag_sheet.proofs.Refusals.{then-failed, then-first, up-refused}
 use Rattle.drag_sheet.proofs.Answers.{call-facts, Bounds, bounds}
@@ -76,7 +76,8 @@ ranges c cells t =
     let width = both-passed (inInterval 0·001 (s .«reference_diameter») 100·0) _ (body .first) in
     let wall = both-passed (inInterval 0·0 (s .roughness) 1·0) _ (width .second) in
     let columns = both-passed (columnsTest s) _ (body .second) in
-    let parts = both-passed (unless (ltb most-parts (length (c .parts))) DesignFull) _ (a .second) in
+    let nozzle = both-passed (nozzleTest (c .nozzle)) _ (a .second) in
+    let parts = both-passed (unless (ltb most-parts (length (c .parts))) DesignFull) _ (nozzle .second) in
     record {
       roughness = inside _ _ _ (wall .first);
       fineness = required-passed _ _ _ (wall .second);
@@ -233,6 +234,8 @@ tries-refused (replace place p) c cells e t b h =
 tries-refused (insert place p) c cells e t b h = some-refused _ e (sym (trial-ready _ cells t) ∙ h)
 tries-refused (remove place) c cells e t b h = some-refused _ e (sym (trial-ready _ cells t) ∙ h)
 tries-refused (setColumn k M R) c cells e t b h = some-refused _ e (sym (column-ready _ cells t k b) ∙ h)
+tries-refused (ignite n) c cells e t b h = never h refl
+tries-refused burnout c cells e t b h = never h refl
 
 -- a call on contents that passed, with arguments that passed, is refused by nothing but a curve
 pub only-curves : (call : Call) (c : Contents) (cells : ℕ) (e : AeroError) → Tested c cells → argumentsTest call (c .settings) (length (c .parts)) ≡ Passed → tries call (applied call c) ≡ Failed e
@@ -245,5 +248,5 @@ pub sheet-only-curves : (call : Call) (sheet : Sheet) (cells : ℕ) (e : AeroErr
 sheet-only-curves call sheet cells e slots ok h =
     let f = call-facts call sheet cells ok in
     let n : length (contentsOf sheet .parts) ≡ sheet .design .count = length-take-le (sheet .design .count) (sheet .design .parts) (omega (arith, f .fits .parts)) in
-    let t = both-passed (sheetTest (sheet .settings) cells (sheet .design .count) (contentsOf sheet .parts)) _ ok in
+    let t = both-passed (sheetTest (contentsOf sheet) cells (sheet .design .count)) _ ok in
     only-curves call (contentsOf sheet) cells e (rw n (t .first)) (rw n (t .second)) (rw ok at h)

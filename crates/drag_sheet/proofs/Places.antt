@@ -3,7 +3,6 @@
 use mathlib.Core.Path.{_≡_, refl, ap}
 use mathlib.Core.Logic.{_↔_, _⊎_, inl, inr, ⊎-elim}
 use mathlib.Core.Bool.{true, _&&_}
-use mathlib.Core.List.{List}
 use Prim.Native.Nat.{ℕ, _+_, _≤_, _<_}
 use native.Mathlib.Omega.{arith}
 use lib.ListN.{length}
@@ -12,6 +11,7 @@ use lib.Ieee.{Float}
 use lib.Ieee.Scale.{finite}
 use borrow.Author.Tests.{ltb-true, ltb-false, lt-ltb}
 use Rattle.elementary.specs.Arithmetic.{_⊗_, _≺_}
+use Rattle.elementary.specs.Constants.{0·0}
 use Rattle.aero_error.specs.declared.Quantity.the-variants.{BoattailLength, BoattailAft, BoattailFore}
 use Rattle.aero_error.specs.declared.AeroError.{AeroError}
 use Rattle.aero_error.specs.declared.AeroError.the-variants.{Domain, Broken}
@@ -31,15 +31,15 @@ use Rattle.sheet_data.specs.declared.Part.{Part}
 use Rattle.sheet_data.specs.declared.Sheet.{Sheet}
 use Rattle.sheet_data.specs.Layout.{most-parts}
 use Rattle.sheet_data.specs.Contents.{Contents, contentsOf, partAt, foreAt, machAt}
-use Rattle.sheet_data.specs.Tests.{settingsTest, partsTest, sheetTest}
+use Rattle.sheet_data.specs.Tests.{100·0, settingsTest, nozzleTest, partsTest, sheetTest}
 use Rattle.drag_sheet.specs.declared.part.Prepared.{Prepared}
 use Rattle.drag_sheet.specs.Formulas.{scaledBy, cellOf, cellFrom, readyTest, madeTest}
 use Rattle.drag_sheet.specs.Build.{preparedAt, rowTest, trial}
-use Rattle.drag_sheet.specs.Calls.{Call, replace, insert, remove, setColumn, argumentsTest, columnTrial, tries, after, decision, applied}
+use Rattle.drag_sheet.specs.Calls.{Call, replace, insert, remove, setColumn, ignite, burnout, argumentsTest, columnTrial, tries, after, decision, applied}
 use Rattle.drag_sheet.specs.Model.{modelDecision}
 use Rattle.drag_sheet.proofs.Refusals.{then-failed, unless-failed}
 use Rattle.drag_sheet.proofs.OnlyCurves.{Way, widens, refused, narrows, level, way}
-use Rattle.drag_sheet.proofs.Absent.{Other, other-then, other-up, other-unless, other-cond, apart, other-required, other-mach, other-settings, other-parts, Absent, Full, arguments-8, arguments-9}
+use Rattle.drag_sheet.proofs.Absent.{Other, other-then, other-up, other-unless, other-cond, apart, other-required, other-interval, other-mach, other-settings, other-parts, Absent, Full, arguments-8, arguments-9}
 
 -- ---- rows
 
@@ -99,75 +99,88 @@ module _ (n : ℕ) (low : 8 ≤ n) (high : n ≤ 9) where
   other-tries (remove place) c = other-trial c
   other-tries (setColumn k M R) c =
       other-up n (length (c .parts)) _ (λ i. other-then n (readyTest (preparedAt c i)) _ (other-ready (way-at c i)) (other-made (machAt (c .settings) k) (way-at c i)))
+  other-tries (ignite n) c = tt
+  other-tries burnout c = tt
 
 -- ---- any tests of a sheet and of a call, and then others
 
-module _ (call : Call) (s : Settings) (cells count : ℕ) (ps : List Part) (rest : Check) where
-  eight : Other 8 rest → ((sheetTest s cells count ps then argumentsTest call s count then rest) ≡ Failed (Broken NoSuchPlace)) ↔ ((sheetTest s cells count ps ≡ Passed) × Absent call s count)
+module _ (call : Call) (c : Contents) (cells count : ℕ) (rest : Check) where
+  abbrev s : Settings
+  s = c .settings
+
+  eight : Other 8 rest → ((sheetTest c cells count then argumentsTest call (c .settings) count then rest) ≡ Failed (Broken NoSuchPlace)) ↔ ((sheetTest c cells count ≡ Passed) × Absent call (c .settings) count)
   unfolding sheetTest
   eight other = (
     (λ e.
         ⊎-elim
-        (λ a. apart (other-then 8 (settingsTest s cells) _ (other-settings 8 (omega arith) (omega arith) s cells) (other-then 8 (unless (ltb most-parts count) DesignFull) _ (other-unless 8 (ltb most-parts count) DesignFull (λ q. omega arith)) (other-parts 8 (omega arith) (omega arith) ps))) refl a)
+        (λ a.
+        apart
+        (other-then 8 (settingsTest s cells) _ (other-settings 8 (omega arith) (omega arith) s cells)
+        (other-then 8 (nozzleTest (c .nozzle)) _ (other-interval 8 (omega arith) (omega arith) 0·0 (c .nozzle) 100·0)
+        (other-then 8 (unless (ltb most-parts count) DesignFull) _ (other-unless 8 (ltb most-parts count) DesignFull (λ q. omega arith)) (other-parts 8 (omega arith) (omega arith) (c .parts)))))
+        refl a)
         (λ b. (b .0, ⊎-elim (arguments-8 call s count .0) (λ d. apart other refl (d .1)) (then-failed (argumentsTest call s count) rest (b .1))))
-        (then-failed (sheetTest s cells count ps) _ e)),
+        (then-failed (sheetTest c cells count) _ e)),
     (λ h. rw (h .0, arguments-8 call s count .1 (h .1))),
   )
 
-  few : sheetTest s cells count ps ≡ Passed → count ≤ most-parts
+  few : sheetTest c cells count ≡ Passed → count ≤ most-parts
   unfolding sheetTest
   few h =
       let a = both-passed (settingsTest s cells) _ h in
-      ltb-false most-parts count (unless-passed _ DesignFull (both-passed (unless (ltb most-parts count) DesignFull) _ (a .second) .first))
+      let b = both-passed (nozzleTest (c .nozzle)) _ (a .second) in
+      ltb-false most-parts count (unless-passed _ DesignFull (both-passed (unless (ltb most-parts count) DesignFull) _ (b .second) .first))
 
-  over : sheetTest s cells count ps ≡ Failed (Broken DesignFull) → (settingsTest s cells ≡ Passed) × (most-parts < count)
+  over : sheetTest c cells count ≡ Failed (Broken DesignFull) → (settingsTest (c .settings) cells ≡ Passed) × (nozzleTest (c .nozzle) ≡ Passed) × (most-parts < count)
   unfolding sheetTest
   over h =
       ⊎-elim (λ a. apart (other-settings 9 (omega arith) (omega arith) s cells) refl a)
-      (λ b. (
+      (λ b.
+      ⊎-elim (λ d. apart (other-interval 9 (omega arith) (omega arith) 0·0 (c .nozzle) 100·0) refl d)
+      (λ d. (
         b .0,
-        ⊎-elim (λ d. ltb-true most-parts count (unless-failed _ DesignFull d)) (λ d. apart (other-parts 9 (omega arith) (omega arith) ps) refl (d .1)) (then-failed (unless (ltb most-parts count) DesignFull) (partsTest ps) (b .1)),
+        d .0,
+        ⊎-elim (λ x. ltb-true most-parts count (unless-failed _ DesignFull x)) (λ x. apart (other-parts 9 (omega arith) (omega arith) (c .parts)) refl (x .1)) (then-failed (unless (ltb most-parts count) DesignFull) (partsTest (c .parts)) (d .1)),
       ))
+      (then-failed (nozzleTest (c .nozzle)) _ (b .1)))
       (then-failed (settingsTest s cells) _ h)
 
-  nine : Other 9 rest → ((sheetTest s cells count ps then argumentsTest call s count then rest) ≡ Failed (Broken DesignFull))
-      ↔ (((settingsTest s cells ≡ Passed) × (most-parts < count)) ⊎ ((sheetTest s cells count ps ≡ Passed) × Full call count))
+  nine : Other 9 rest → ((sheetTest c cells count then argumentsTest call (c .settings) count then rest) ≡ Failed (Broken DesignFull))
+      ↔ (((settingsTest (c .settings) cells ≡ Passed) × (nozzleTest (c .nozzle) ≡ Passed) × (most-parts < count)) ⊎ ((sheetTest c cells count ≡ Passed) × Full call count))
   unfolding sheetTest
   nine other = (
     (λ e.
         ⊎-elim
         (λ a. inl (over a))
         (λ b. inr (b .0, ⊎-elim (arguments-9 call s count (few (b .0)) .0) (λ d. apart other refl (d .1)) (then-failed (argumentsTest call s count) rest (b .1))))
-        (then-failed (sheetTest s cells count ps) _ e)),
-    ⊎-elim (λ h. rw (h .0, lt-ltb most-parts count (h .1))) (λ h. rw (h .0, arguments-9 call s count (few (h .0)) .1 (h .1))),
+        (then-failed (sheetTest c cells count) _ e)),
+    ⊎-elim (λ h. rw (h .0, h .1, lt-ltb most-parts count (h .2))) (λ h. rw (h .0, arguments-9 call s count (few (h .0)) .1 (h .1))),
   )
 
 -- ---- the calls
 
 module _ (call : Call) (sheet : Sheet) (cells : ℕ) where
   abbrev test : Check
-  test = sheetTest (sheet .settings) cells (sheet .design .count) (contentsOf sheet .parts)
+  test = sheetTest (contentsOf sheet) cells (sheet .design .count)
 
   assoc : decision call sheet cells ≡ (test then argumentsTest call (sheet .settings) (sheet .design .count) then tries call (after call sheet))
   assoc = then-assoc test _ _
 
   pub no-such-place : (decision call sheet cells ≡ Failed (Broken NoSuchPlace))
-      ↔ ((sheetTest (sheet .settings) cells (sheet .design .count) (contentsOf sheet .parts) ≡ Passed) × Absent call (sheet .settings) (sheet .design .count))
-  no-such-place = rw assoc (eight call (sheet .settings) cells (sheet .design .count) (contentsOf sheet .parts) _ (other-tries 8 (omega arith) (omega arith) call (after call sheet)))
+      ↔ ((sheetTest (contentsOf sheet) cells (sheet .design .count) ≡ Passed) × Absent call (sheet .settings) (sheet .design .count))
+  no-such-place = rw assoc (eight call (contentsOf sheet) cells (sheet .design .count) _ (other-tries 8 (omega arith) (omega arith) call (after call sheet)))
 
   pub design-full : (decision call sheet cells ≡ Failed (Broken DesignFull))
-      ↔ (((settingsTest (sheet .settings) cells ≡ Passed) × (16 < sheet .design .count))
-      ⊎ ((sheetTest (sheet .settings) cells (sheet .design .count) (contentsOf sheet .parts) ≡ Passed) × Full call (sheet .design .count)))
-  design-full = rw assoc (nine call (sheet .settings) cells (sheet .design .count) (contentsOf sheet .parts) _ (other-tries 9 (omega arith) (omega arith) call (after call sheet)))
+      ↔ (((settingsTest (sheet .settings) cells ≡ Passed) × (nozzleTest (sheet .«nozzle_diameter») ≡ Passed) × (16 < sheet .design .count))
+      ⊎ ((sheetTest (contentsOf sheet) cells (sheet .design .count) ≡ Passed) × Full call (sheet .design .count)))
+  design-full = rw assoc (nine call (contentsOf sheet) cells (sheet .design .count) _ (other-tries 9 (omega arith) (omega arith) call (after call sheet)))
 
 -- the hand copy's answers, 9 where it has 16 parts at most
 module _ (cells : ℕ) (call : Call) (m : Contents) where
-  pub model-no-such-place : (modelDecision cells call m ≡ Failed (Broken NoSuchPlace))
-      ↔ ((sheetTest (m .settings) cells (length (m .parts)) (m .parts) ≡ Passed) × Absent call (m .settings) (length (m .parts)))
-  model-no-such-place = eight call (m .settings) cells (length (m .parts)) (m .parts) _ (other-trial 8 (omega arith) (omega arith) (applied call m))
+  pub model-no-such-place : (modelDecision cells call m ≡ Failed (Broken NoSuchPlace)) ↔ ((sheetTest m cells (length (m .parts)) ≡ Passed) × Absent call (m .settings) (length (m .parts)))
+  model-no-such-place = eight call m cells (length (m .parts)) _ (other-trial 8 (omega arith) (omega arith) (applied call m))
 
-  pub model-design-full : length (m .parts) ≤ 16 → (modelDecision cells call m ≡ Failed (Broken DesignFull))
-      ↔ ((sheetTest (m .settings) cells (length (m .parts)) (m .parts) ≡ Passed) × Full call (length (m .parts)))
+  pub model-design-full : length (m .parts) ≤ 16 → (modelDecision cells call m ≡ Failed (Broken DesignFull)) ↔ ((sheetTest m cells (length (m .parts)) ≡ Passed) × Full call (length (m .parts)))
   model-design-full few =
-      let e = nine call (m .settings) cells (length (m .parts)) (m .parts) _ (other-trial 9 (omega arith) (omega arith) (applied call m)) in
-      ((λ h. ⊎-elim (λ a. absurd (omega (arith, a .1))) (λ b. b) (e .0 h)), (λ h. e .1 (inr h)))
+      let e = nine call m cells (length (m .parts)) _ (other-trial 9 (omega arith) (omega arith) (applied call m)) in
+      ((λ h. ⊎-elim (λ a. absurd (omega (arith, a .2))) (λ b. b) (e .0 h)), (λ h. e .1 (inr h)))

@@ -1,5 +1,5 @@
 -- The tests of a sheet hold of the contents that a call leaves, where they held before and the call's own arguments passed theirs.
-use mathlib.Core.Path.{_≡_}
+use mathlib.Core.Path.{_≡_, refl}
 use mathlib.Core.Bool.{true}
 use mathlib.Core.List.{List, [], _∷_, _++_}
 use Prim.Native.Nat.{ℕ, zero, suc, _+_, _<_}
@@ -7,8 +7,10 @@ use native.Mathlib.Nat.{le-of-suc-le-suc, not-suc-le-zero}
 use native.Mathlib.Omega.{arith}
 use lib.ListN.{length, getD, take, drop, set}
 use lib.Dec.{ltb, leb}
-use lib.Ieee.{Float, nan}
+use lib.Ieee.{Float, nan, lt, le, eq, ofBits}
 use borrow.Author.Tests.{ltb-false, le-ltb}
+use Rattle.elementary.specs.Tests.{between}
+use Rattle.elementary.specs.Constants.{0·0}
 use Rattle.aero_error.specs.declared.Check.the-variants.{Passed}
 use Rattle.aero_error.specs.declared.Quantity.the-variants.{Reynolds}
 use Rattle.aero_error.specs.declared.Rule.the-variants.{TooManyColumns, DesignFull, NoSuchPlace}
@@ -19,14 +21,14 @@ use Rattle.sheet_data.specs.declared.Settings.{Settings}
 use Rattle.sheet_data.specs.declared.Part.{Part}
 use Rattle.sheet_data.specs.Layout.{most-parts, most-columns}
 use Rattle.sheet_data.specs.Contents.{Contents, no-part, machAt, reynoldsAt}
-use Rattle.sheet_data.specs.Tests.{bodyTest, columnsTest, settingsTest, partTest, partsTest, sheetTest}
-use Rattle.drag_sheet.specs.Calls.{Call, replace, insert, remove, setColumn, withColumn, applied, argumentsTest}
+use Rattle.sheet_data.specs.Tests.{bodyTest, columnsTest, settingsTest, nozzleTest, partTest, partsTest, sheetTest}
+use Rattle.drag_sheet.specs.Calls.{Call, replace, insert, remove, setColumn, ignite, burnout, withColumn, applied, argumentsTest}
 use Rattle.drag_sheet.proofs.Answers.{bounds}
 use Rattle.drag_sheet.proofs.CallLaws.{parts-few}
 
 -- the contents pass the tests of a sheet given, with so many cells lent
 abbrev pub Tested : Contents → ℕ → Type 0
-Tested c cells = sheetTest (c .settings) cells (length (c .parts)) (c .parts) ≡ Passed
+Tested c cells = sheetTest c cells (length (c .parts)) ≡ Passed
 
 -- ---- what holds of each element
 
@@ -92,6 +94,8 @@ parts-kept (insert place p) c e a =
     all-append Fine (take place (c .parts)) (p ∷ drop place (c .parts)) (all-take Fine place (c .parts) a) (d .second, all-drop Fine place (c .parts) a)
 parts-kept (remove place) c e a = all-append Fine (take place (c .parts)) (drop (place + 1) (c .parts)) (all-take Fine place (c .parts) a) (all-drop Fine (place + 1) (c .parts) a)
 parts-kept (setColumn k M R) c e a = a
+parts-kept (ignite n) c e a = a
+parts-kept burnout c e a = a
 
 -- ---- the settings
 
@@ -117,14 +121,31 @@ settings-kept (replace place p) c cells e h = h
 settings-kept (insert place p) c cells e h = h
 settings-kept (remove place) c cells e h = h
 settings-kept (setColumn k M R) c cells e h = column-kept (c .settings) cells k M R (both-passed (unless (leb (c .settings .count) k) NoSuchPlace) _ e .second) h
+settings-kept (ignite n) c cells e h = h
+settings-kept burnout c cells e h = h
 
--- ---- both
+-- ---- the nozzle diameter
+
+zero-passes : nozzleTest 0·0 ≡ Passed
+unfolding between ofBits lt le eq
+zero-passes = refl
+
+nozzle-kept : (call : Call) (c : Contents) → argumentsTest call (c .settings) (length (c .parts)) ≡ Passed → nozzleTest (c .nozzle) ≡ Passed → nozzleTest (applied call c .nozzle) ≡ Passed
+nozzle-kept (replace place p) c e h = h
+nozzle-kept (insert place p) c e h = h
+nozzle-kept (remove place) c e h = h
+nozzle-kept (setColumn k M R) c e h = h
+nozzle-kept (ignite n) c e h = e
+nozzle-kept burnout c e h = zero-passes
+
+-- ---- all
 
 pub tested-after : (call : Call) (c : Contents) (cells : ℕ) → Tested c cells → argumentsTest call (c .settings) (length (c .parts)) ≡ Passed → Tested (applied call c) cells
 unfolding sheetTest
 tested-after call c cells t e =
     let a = both-passed (settingsTest (c .settings) cells) _ t in
-    let b = both-passed (unless (ltb most-parts (length (c .parts))) DesignFull) _ (a .second) in
+    let n = both-passed (nozzleTest (c .nozzle)) _ (a .second) in
+    let b = both-passed (unless (ltb most-parts (length (c .parts))) DesignFull) _ (n .second) in
     let few = parts-few call c (bounds call (c .settings) (length (c .parts)) e) (ltb-false most-parts _ (unless-passed _ DesignFull (b .first))) in
-    rw (settings-kept call c cells e (a .first), le-ltb most-parts (length (applied call c .parts)) few)
+    rw (settings-kept call c cells e (a .first), nozzle-kept call c e (n .first), le-ltb most-parts (length (applied call c .parts)) few)
     (all-parts (applied call c .parts) (parts-kept call c e (each-part (c .parts) (b .second))))

@@ -6,7 +6,7 @@ use mathlib.Core.List.{List}
 use Prim.Native.Nat.{ℕ, zero, suc, _≤_, _<_}
 use lib.ListN.{length, getD, replicate}
 use lib.Ieee.{Float, nan}
-use Rattle.elementary.specs.Arithmetic.{_⊕_, _⊗_, _⊘_}
+use Rattle.elementary.specs.Arithmetic.{_⊕_, _⊗_}
 use Rattle.elementary.specs.Constants.{0·0}
 use Rattle.drag.specs.declared.Wall.{Wall}
 use Rattle.drag.specs.declared.Flow.{Flow}
@@ -20,7 +20,7 @@ use Rattle.sheet_data.specs.declared.PartRoughness.the-variants.{OfSettings, Ow
 use Rattle.sheet_data.specs.declared.Part.{Part}
 use Rattle.sheet_data.specs.declared.Sheet.{Sheet}
 use Rattle.sheet_data.specs.Layout.{most-parts, most-columns}
-use Rattle.sheet_data.specs.Contents.{Contents, partAt, foreAt, machAt, reynoldsAt}
+use Rattle.sheet_data.specs.Contents.{Contents, partAt, machAt, reynoldsAt}
 use Rattle.sheet_data.specs.Tables.{tab}
 use Rattle.drag_sheet.specs.Formulas.{valueOf, frictionCell}
 
@@ -29,12 +29,6 @@ use Rattle.drag_sheet.specs.Formulas.{valueOf, frictionCell}
 -- a base cell from the share of the reference area
 abbrev pub baseOver : Float → Float → Float
 baseOver area M = valueOf (baseDragCoefficient M) ⊗ area
-
-abbrev pub baseArea : Contents → Float
-baseArea c =
-    let last = foreAt (c .parts) (length (c .parts)) in
-    let D = c .settings .«reference_diameter» in
-    last ⊗ last ⊘ (D ⊗ D)
 
 -- ---- the friction
 

@@ -1,4 +1,5 @@
--- What the functions under the calls say: a design with a part put anew, settings with one column alone, a sheet rewritten, a replaced part's rows written.
+-- What the functions under the calls say: a design with a part put anew, settings with one column alone, a sheet rewritten, a replaced part's rows written, a nozzle
+-- diameter put.
 use mathlib.Core.Path.{_≡_}
 use mathlib.Core.List.{List, [], _∷_, _++_}
 use Prim.Native.Nat.{ℕ, _+_, _*_, _≤_, _<_}
@@ -16,7 +17,7 @@ use Rattle.sheet_data.specs.Rows.{written}
 use Rattle.drag_sheet.specs.declared.Answer.{Answer}
 use Rattle.drag_sheet.specs.Build.{rowTest, trial}
 use Rattle.drag_sheet.specs.Writing.{chosen, rows, whole, overwritten}
-use Rattle.drag_sheet.specs.Calls.{answered, rowTestWhere, bodyRows, replacedRows}
+use Rattle.drag_sheet.specs.Calls.{answered, rowTestWhere, nozzleRows, bodyRows, replacedRows}
 
 abbrev pub replacedIn : Design → ℕ → Part → Design
 replacedIn d place p = record { count = d .count; parts = set (d .parts) place p }
@@ -53,3 +54,12 @@ pub record Changed (sheet : Sheet) (place : ℕ) (xs : List Float) (r : Check) (
 pub record NextWritten (sheet : Sheet) (place : ℕ) (own xs : List Float) (r : Check) (ys : List Float) : Type 0 where
   pub verdict : r ≡ rowTest (contentsOf sheet) (place + 1)
   pub cells : ys ≡ chosen (rowTest (contentsOf sheet) (place + 1)) xs (overwritten (rows (bodyRows ++ (place + 1) ∷ [])) (contentsOf sheet) (written (place * sheet .settings .count) own xs))
+
+-- a sheet with another nozzle diameter
+abbrev pub nozzledAs : Float → Sheet → Sheet
+nozzledAs n sheet = record { settings = sheet .settings; design = sheet .design; «nozzle_diameter» = n }
+
+-- a nozzle diameter put where the tests have passed, with its rows
+pub record NozzlePut (test : Check) (n : Float) (sheet : Sheet) (xs : List Float) (r : Answer) (ys : List Float) : Type 0 where
+  pub answer : r ≡ answered test sheet (nozzledAs n sheet)
+  pub cells : ys ≡ chosen test xs (overwritten (rows nozzleRows) (contentsOf (nozzledAs n sheet)) xs)

@@ -102,9 +102,17 @@ partFriction s p M R = formedFriction s (roughnessOf (p .roughness) (s .roughnes
 unfoldable pub frictionCell : Contents → Float → Float → Float
 frictionCell c M R = sumTo (length (c .parts)) (λ i. partFriction (c .settings) (partAt (c .parts) i) M R)
 
--- "base drag at M × ((last d × last d)/(D×D)), last d being 0 without parts"
+-- "the base area becomes d×d - n×n over D×D, and +0 when n is above d"
+unfoldable pub baseRatio : Float → Float → Float → Float
+baseRatio d n D = cond (d ≺ n) 0·0 (areaRatio d n D)
+
+-- d is the last part's, "last d being 0 without parts"
+abbrev pub lastDiameter : Contents → Float
+lastDiameter c = foreAt (c .parts) (length (c .parts))
+
+abbrev pub baseArea : Contents → Float
+baseArea c = baseRatio (lastDiameter c) (c .nozzle) (c .settings .«reference_diameter»)
+
+-- base drag at M × the base area
 unfoldable pub baseCell : Contents → Float → Float
-baseCell c M =
-    let last = foreAt (c .parts) (length (c .parts)) in
-    let D = c .settings .«reference_diameter» in
-    valueOf (baseDragCoefficient M) ⊗ (last ⊗ last ⊘ (D ⊗ D))
+baseCell c M = valueOf (baseDragCoefficient M) ⊗ baseArea c

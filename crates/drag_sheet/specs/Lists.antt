@@ -1,5 +1,5 @@
--- Demand 3, stated: an open with whatever settings and cells, and from an accepted one every list of replace, insert, remove and column calls, refused ones
--- anywhere in it.
+-- Demand 3, stated: an open with whatever settings and cells, and from an accepted one every list of replace, insert, remove, column, ignite and burnout
+-- calls, refused ones anywhere in it.
 use mathlib.Core.Path.{_≡_}
 use mathlib.Core.List.{List, [], _∷_, map}
 use lib.ListN.{length, take, drop}

@@ -1,9 +1,10 @@
 -- The model that a list of calls is held against: the copy that is kept by hand (docs/REFERENCE.md, Hand copy). It is fed the calls' arguments and the number
--- of cells lent, and nothing else. It holds contents: the settings with their columns, and the parts in order.
+-- of cells lent, and nothing else. It holds contents: the settings with their columns, the parts in order, and the nozzle diameter, "which the hand copy keeps too".
 use mathlib.Core.List.{List, [], _∷_, map}
 use mathlib.Core.Option.{Option}
 use Prim.Native.Nat.{ℕ}
 use lib.ListN.{length}
+use Rattle.elementary.specs.Constants.{0·0}
 use Rattle.aero_error.specs.declared.Check.{Check}
 use Rattle.aero_error.specs.Checks.{_then_}
 use Rattle.aero_error.specs.Told.{Told, told}
@@ -18,15 +19,15 @@ use Rattle.drag_sheet.specs.Calls.{Call, applied, argumentsTest}
 abbrev pub openDecision : ℕ → Settings → Check
 openDecision cells s = settingsTest s cells
 
--- "an accepted one gives its settings and no parts"
+-- "an accepted one gives its settings and no parts"; "open starts coasting"
 abbrev pub openedModel : Settings → Contents
-openedModel s = record { settings = s; parts = [] }
+openedModel s = record { settings = s; parts = []; nozzle = 0·0 }
 
 -- "Any other call is refused where the order below refuses it with the copy as the sheet given", and "Rows are tried on the copy as the call would leave it":
 -- the same line for every call, all rows of one build of the contents applied
 abbrev pub modelDecision : ℕ → Call → Contents → Check
 modelDecision cells call m =
-    sheetTest (m .settings) cells (length (m .parts)) (m .parts)
+    sheetTest m cells (length (m .parts))
     then argumentsTest call (m .settings) (length (m .parts))
     then trial (applied call m)
 

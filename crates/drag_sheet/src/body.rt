@@ -6,8 +6,9 @@ ghost use lib.Ieee.{nan};
 ghost use Rattle.sheet_data.specs.Layout.{most-parts};
 ghost use Rattle.sheet_data.specs.Contents.{contentsOf, foreAt};
 ghost use Rattle.sheet_data.specs.Tables.{tab};
-ghost use Rattle.drag_sheet.specs.Formulas.{valueOf};
-ghost use Rattle.drag_sheet.specs.Body.{baseOver, baseArea};
+ghost use Rattle.drag_sheet.specs.Formulas.{valueOf, baseRatio, baseArea};
+ghost use Rattle.drag_sheet.specs.Body.{baseOver};
+use crate::part::area_ratio;
 use aero_error::Coefficient;
 use sheet_data::Design;
 use sheet_data::Sheet;
@@ -34,14 +35,28 @@ pub(crate) fn fore_diameter(design: Design, place: usize) -> f64
     part.aft_diameter
 }
 
+// The share of the reference area that a base of the diameter d has around a nozzle of the diameter n.
+fn base_ratio(d: f64, n: f64, reference_diameter: f64) -> f64
+    ensures { λ r. ⌜ r ≡ baseRatio d n «reference_diameter» ⌝ }
+{
+    if d < n {
+        0.0
+    } else {
+        area_ratio(d, n, reference_diameter)
+    }
+}
+
 // The base's share of the reference area.
 pub(crate) fn base_area(sheet: Sheet) -> f64
     requires { ⌜ sheet .design .count ≤ most-parts ⌝ }
     ensures { λ r. ⌜ r ≡ baseArea (contentsOf sheet) ⌝ }
 {
-    let reference = sheet.settings.reference_diameter;
     let last = fore_diameter(sheet.design, sheet.design.count);
-    last * last / (reference * reference)
+    base_ratio(
+        last,
+        sheet.nozzle_diameter,
+        sheet.settings.reference_diameter,
+    )
 }
 
 // Fills `out` with the base row.

@@ -1,14 +1,15 @@
-// The drag sheet (docs/REFERENCE.md, Sheet, Rows and Calls): open, replace, insert, remove and set column. A sheet goes by value; the cells
+// The drag sheet (docs/REFERENCE.md, Sheet, Rows and Calls): open, replace, insert, remove, set column, ignite and burnout. A sheet goes by value; the cells
 // are lent. A call first tests and builds all that it needs in memory of its own, and only then writes the lent cells, so a refused call
 // leaves them as they were.
 ghost use mathlib.Core.Path.{_≡_};
 ghost use Prim.Native.Nat.{_+_, _<_};
 ghost use lib.ListN.{length};
+ghost use Rattle.aero_error.specs.declared.Check.the-variants.{Passed};
 ghost use Rattle.sheet_data.specs.Contents.{contentsOf, Fits};
 ghost use Rattle.drag_sheet.specs.Build.{rowTest, rowOf};
 ghost use Rattle.drag_sheet.specs.Writing.{Filled};
-ghost use Rattle.drag_sheet.specs.Calls.{insert as insertCall, remove as removeCall, replace as replaceCall, setColumn, answered, callTest, Called, Opened};
-ghost use Rattle.drag_sheet.specs.Edits.{RowAsked, Rewritten, NextWritten, Changed};
+ghost use Rattle.drag_sheet.specs.Calls.{insert as insertCall, remove as removeCall, replace as replaceCall, setColumn, ignite as igniteCall, burnout as burnoutCall, answered, callTest, Called, Opened};
+ghost use Rattle.drag_sheet.specs.Edits.{RowAsked, Rewritten, NextWritten, Changed, NozzlePut};
 
 mod body;
 mod edits;
@@ -24,6 +25,7 @@ use sheet_data::Design;
 use sheet_data::Part;
 use sheet_data::Settings;
 use sheet_data::Sheet;
+use sheet_data::checks::check_nozzle;
 use sheet_data::checks::check_part;
 use sheet_data::checks::check_settings;
 use sheet_data::checks::check_sheet;
@@ -104,7 +106,12 @@ pub fn insert(sheet: Sheet, place: usize, part: Part, cells: &mut [f64]) -> Answ
         count: count + 1,
         parts: edits::inserted(parts, count, place, part),
     };
-    rewrite(sheet, Sheet { settings, design }, cells)
+    let left = Sheet {
+        settings,
+        design,
+        nozzle_diameter: sheet.nozzle_diameter,
+    };
+    rewrite(sheet, left, cells)
 }
 
 fn check_remove(sheet: Sheet, place: usize, cells: usize) -> Check
@@ -133,7 +140,12 @@ pub fn remove(sheet: Sheet, place: usize, cells: &mut [f64]) -> Answer
         count: count - 1,
         parts: edits::removed(parts, count, place),
     };
-    rewrite(sheet, Sheet { settings, design }, cells)
+    let left = Sheet {
+        settings,
+        design,
+        nozzle_diameter: sheet.nozzle_diameter,
+    };
+    rewrite(sheet, left, cells)
 }
 
 fn check_set_column(sheet: Sheet, column: usize, mach: f64, reynolds: f64, cells: usize) -> Check
@@ -168,6 +180,7 @@ pub fn set_column(
     let one = Sheet {
         settings: edits::one_column(settings, mach, reynolds),
         design,
+        nozzle_diameter: sheet.nozzle_diameter,
     };
     let mut values = [0.0; ROWS];
     let all = layout::rows();
@@ -178,9 +191,14 @@ pub fn set_column(
     let count = settings.count;
     rows::write_column(column, count, &values[..all], cells);
     let settings = edits::with_column(settings, column, mach, reynolds);
+    let left = Sheet {
+        settings,
+        design,
+        nozzle_diameter: sheet.nozzle_diameter,
+    };
     Answer {
         outcome,
-        sheet: Sheet { settings, design },
+        sheet: left,
     }
 }
 
@@ -254,7 +272,50 @@ pub fn replace(sheet: Sheet, place: usize, part: Part, cells: &mut [f64]) -> Ans
     };
     let settings = sheet.settings;
     let design = edits::replaced_in(sheet.design, place, part);
-    let left = Sheet { settings, design };
+    let left = Sheet {
+        settings,
+        design,
+        nozzle_diameter: sheet.nozzle_diameter,
+    };
     let outcome = write_changed(left, place, cells);
     answer_for(outcome, sheet, left)
+}
+
+// Puts a nozzle diameter, and writes the base and total rows; or nothing, where the tests before have refused it.
+fn put_nozzle(outcome: Check, sheet: Sheet, nozzle_diameter: f64, cells: &mut [f64]) -> Answer
+    requires { ⌜ (outcome ≡ Passed → Fits sheet (length (now cells))) ⌝ }
+    ensures { λ r. ⌜ NozzlePut outcome «nozzle_diameter» sheet (now (cells .entry)) r (now (cells .exit)) ⌝ }
+{
+    let Check::Passed = outcome else {
+        return Answer { outcome, sheet };
+    };
+    let mut left = sheet;
+    left.nozzle_diameter = nozzle_diameter;
+    rows::write_nozzle_rows(left, cells);
+    Answer {
+        outcome,
+        sheet: left,
+    }
+}
+
+fn check_ignite(sheet: Sheet, nozzle_diameter: f64, cells: usize) -> Check
+    ensures { λ r. ⌜ r ≡ callTest (igniteCall «nozzle_diameter») sheet cells ⌝ }
+{
+    then(check_sheet(sheet, cells), check_nozzle(nozzle_diameter))
+}
+
+// Gives the nozzle's diameter, which fills part of the base, and writes the base and total rows.
+pub fn ignite(sheet: Sheet, nozzle_diameter: f64, cells: &mut [f64]) -> Answer
+    ensures { λ r. ⌜ Called (igniteCall «nozzle_diameter») sheet (now (cells .entry)) r (now (cells .exit)) ⌝ }
+{
+    let outcome = check_ignite(sheet, nozzle_diameter, cells.len());
+    put_nozzle(outcome, sheet, nozzle_diameter, cells)
+}
+
+// Puts the nozzle's diameter back to 0, and writes the base and total rows.
+pub fn burnout(sheet: Sheet, cells: &mut [f64]) -> Answer
+    ensures { λ r. ⌜ Called burnoutCall sheet (now (cells .entry)) r (now (cells .exit)) ⌝ }
+{
+    let outcome = check_sheet(sheet, cells.len());
+    put_nozzle(outcome, sheet, 0.0, cells)
 }

@@ -49,7 +49,7 @@ fn not_built(built: Curve, area: f64) -> Prepared
 }
 
 // (a×a - b×b)/(D×D)
-fn area_ratio(a: f64, b: f64, reference_diameter: f64) -> f64
+pub(crate) fn area_ratio(a: f64, b: f64, reference_diameter: f64) -> f64
     ensures { λ r. ⌜ r ≡ areaRatio a b «reference_diameter» ⌝ }
 {
     (a * a - b * b) / (reference_diameter * reference_diameter)

@@ -12,7 +12,7 @@ ghost use Rattle.sheet_data.specs.Rows.{from, written, rowsWritten};
 ghost use Rattle.drag_sheet.specs.Formulas.{sumTo};
 ghost use Rattle.drag_sheet.specs.Build.{rowOf, trial, build};
 ghost use Rattle.drag_sheet.specs.Writing.{there, totalThere, totalled, columnPut, Filled, AllWritten};
-ghost use Rattle.drag_sheet.specs.Calls.{bodyRows};
+ghost use Rattle.drag_sheet.specs.Calls.{nozzleRows, bodyRows};
 use crate::body;
 use crate::friction;
 use crate::part;
@@ -152,15 +152,23 @@ fn write_base(sheet: Sheet, cells: &mut [f64])
     body::fill_base(area, &machs[..count], &mut cells[at..end]);
 }
 
+// Writes the base and total rows anew.
+pub(crate) fn write_nozzle_rows(sheet: Sheet, cells: &mut [f64])
+    requires { ⌜ Fits sheet (length (now cells)) ⌝ }
+    ensures { λ _. ⌜ now (cells .exit) ≡ totalled (sheet .settings .count) (rowsWritten (sheet .settings .count) (rowOf (contentsOf sheet)) nozzleRows (now (cells .entry))) ⌝ }
+{
+    let count = sheet.settings.count;
+    write_base(sheet, cells);
+    write_totals(count, cells);
+}
+
 // Writes the friction, base and total rows anew.
 pub(crate) fn write_body(sheet: Sheet, cells: &mut [f64])
     requires { ⌜ Fits sheet (length (now cells)) ⌝ }
     ensures { λ _. ⌜ now (cells .exit) ≡ totalled (sheet .settings .count) (rowsWritten (sheet .settings .count) (rowOf (contentsOf sheet)) bodyRows (now (cells .entry))) ⌝ }
 {
-    let count = sheet.settings.count;
     write_frictions(sheet, cells);
-    write_base(sheet, cells);
-    write_totals(count, cells);
+    write_nozzle_rows(sheet, cells);
 }
 
 // The rows of a design's parts; the other cells stay. It stops at the lowest place that cannot be built.

@@ -1,15 +1,15 @@
--- lo + 0 × d for finite lo and d: it is lo, but for a zero lo, where it is a zero, whose sign may be another: -0 + 0 × d is +0 for a d that isn't negative. (Where d overflows, 0 × d is a NaN.)
-use mathlib.Core.Path.{_≡_, refl, ap, _∙_}
+-- A zero added or taken away. x - 0 is x for every x (`minus-zero`). lo + 0 × d for finite lo and d: it is lo, but for a zero lo, where it is a zero, whose sign may be another: -0 + 0 × d is +0 for a d that isn't negative. (Where d overflows, 0 × d is a NaN.)
+use mathlib.Core.Path.{_≡_, refl, sym, ap, _∙_}
 use mathlib.Core.Bool.{Bool, true, false, cond, _&&_}
 use Prim.Native.Nat.{ℕ, zero, suc, _*_, _<_, zero-le}
 use native.Mathlib.Nat.{mul-one, zero-mul, add-zero, sub-zero, mul-pos, zero-lt-suc}
 use lib.IntN.{ℤ, pos}
 use lib.Dec.{T}
-use lib.Ieee.{Float, nan, inf, fin, binary64, up, down, round, unlike, sum, add, mul, fits, ofBits, le, lt, eq}
+use lib.Ieee.{Float, nan, inf, fin, binary64, up, down, round, unlike, neg, sum, add, sub, mul, fits, ofBits, le, lt, eq}
 use lib.Ieee.Scale.{finite}
 use lib.Ieee.Fits.{up-pos, down-pos}
 use borrow.Author.Tests.{lt-ltb, le-ltb}
-use Rattle.elementary.specs.Arithmetic.{_⊕_, _⊗_, _≼_}
+use Rattle.elementary.specs.Arithmetic.{_⊕_, _⊖_, _⊗_, _≼_}
 use Rattle.elementary.specs.Constants.{0·0}
 use Rattle.elementary.proofs.Same.{round-held, round-nothing, zero-is}
 
@@ -49,6 +49,22 @@ two-zeros true true = refl
 two-zeros true false = refl
 two-zeros false true = refl
 two-zeros false false = refl
+
+-- x - (+0) is x + (-0)
+taken-away : (x : Float) → x ⊖ 0·0 ≡ x ⊕ fin true 0 (pos 0)
+unfolding sub neg ofBits
+taken-away x = refl
+
+pub minus-zero : (x : Float) → T (fits binary64 x) → x ⊖ 0·0 ≡ x
+unfolding add
+minus-zero nan h = taken-away nan
+minus-zero (inf s) h = taken-away (inf s)
+minus-zero (fin s zero e) h = let z = zero-is s e h in ap (λ (x : Float). x ⊖ 0·0) z ∙ taken-away (fin s 0 (pos 0)) ∙ two-zeros s true ∙ signed s ∙ sym z
+  where
+    signed : (s : Bool) → fin (s && true) 0 (pos 0) ≡ fin s 0 (pos 0)
+    signed true = refl
+    signed false = refl
+minus-zero (fin s (suc m) e) h = taken-away (fin s (suc m) e) ∙ plus-zero s true m e h
 
 pub nothing-of : (lo d : Float) → T (fits binary64 lo) → T (finite lo) → T (finite d) → Alike (lo ⊕ 0·0 ⊗ d) lo
 nothing-of nan d h a b = absurd a

@@ -1,4 +1,4 @@
--- What passed tests have shown of numbers in a house interval: "in [0, 1]" a part's own roughness, given or held at any place.
+-- What passed tests have shown of numbers in a house interval: "in [0, 1]" a part's own roughness, given or held at any place; "[0, 100]" a nozzle diameter held.
 use mathlib.Core.Path.{_≡_, refl}
 use mathlib.Core.Bool.{Bool, true, false, cond}
 use mathlib.Core.List.{List}
@@ -16,8 +16,8 @@ use Rattle.aero_error.specs.CheckLaws.{both-passed, up-each}
 use Rattle.sheet_data.specs.declared.PartRoughness.{PartRoughness}
 use Rattle.sheet_data.specs.declared.PartRoughness.the-variants.{Own}
 use Rattle.sheet_data.specs.declared.Part.{Part}
-use Rattle.sheet_data.specs.Contents.{partAt}
-use Rattle.sheet_data.specs.Tests.{100·0, inInterval, ownTest, partTest, partsTest}
+use Rattle.sheet_data.specs.Contents.{Contents, partAt}
+use Rattle.sheet_data.specs.Tests.{100·0, inInterval, ownTest, settingsTest, nozzleTest, partTest, partsTest, sheetTest}
 
 pub inside : (low x high : Float) → inInterval low x high ≡ Passed → between low x high ≡ true
 inside low x high h = by-test (between low x high) h
@@ -41,3 +41,8 @@ given-own p x h e =
 pub held-own : (ps : List Part) (i : ℕ) (x : Float) → partsTest ps ≡ Passed → i < length ps → partAt ps i .roughness ≡ Own x → between 0·0 x 1·0 ≡ true
 unfolding partsTest
 held-own ps i x h l e = given-own (partAt ps i) x (up-each _ (length ps) h i l) e
+
+-- "An n outside [0, 100], NaN too, is refusal 11": of a nozzle diameter held
+pub held-nozzle : (c : Contents) (cells count : ℕ) → sheetTest c cells count ≡ Passed → between 0·0 (c .nozzle) 100·0 ≡ true
+unfolding sheetTest
+held-nozzle c cells count h = inside 0·0 (c .nozzle) 100·0 (both-passed (nozzleTest (c .nozzle)) _ (both-passed (settingsTest (c .settings) cells) _ h .second) .first)

@@ -1,4 +1,4 @@
--- What a sheet holds: the settings with their columns, and the parts in order. This is all that docs/REFERENCE.md's hand copy keeps, and all that the rows are
+-- What a sheet holds: the settings with their columns, the parts in order, and the nozzle diameter. This is all that docs/REFERENCE.md's hand copy keeps, and all that the rows are
 -- made from; what stands past a count in an array is not in it.
 use mathlib.Core.Path.{_≡_}
 use mathlib.Core.List.{List}
@@ -18,21 +18,22 @@ use Rattle.sheet_data.specs.Layout.{most-parts, most-columns, needed}
 pub record Contents : Type 0 where
   pub settings : Settings
   pub parts : List Part
+  pub nozzle : Float
 
 -- the design's parts
 abbrev pub partsOf : Design → List Part
 partsOf d = take (d .count) (d .parts)
 
 abbrev pub contentsOf : Sheet → Contents
-contentsOf sheet = record { settings = sheet .settings; parts = partsOf (sheet .design) }
+contentsOf sheet = record { settings = sheet .settings; parts = partsOf (sheet .design); nozzle = sheet .«nozzle_diameter» }
 
 -- what stands in a place that was never filled
 abbrev pub emptyPart : Part
 emptyPart = record { shape = Conical; length = 0·0; «aft_diameter» = 0·0; «joint_angle» = 0·0; «wetted_ratio» = 0·0; roughness = OfSettings }
 
--- a sheet with no parts
+-- a sheet with no parts: "open starts coasting"
 abbrev pub blank : Settings → Sheet
-blank s = record { settings = s; design = record { count = 0; parts = replicate most-parts emptyPart } }
+blank s = record { settings = s; design = record { count = 0; parts = replicate most-parts emptyPart }; «nozzle_diameter» = 0·0 }
 
 -- what a read past the last part would give; nothing looks there
 abbrev pub no-part : Part

@@ -23,7 +23,7 @@ use Rattle.sheet_data.specs.declared.PartRoughness.{PartRoughness}
 use Rattle.sheet_data.specs.declared.PartRoughness.the-variants.{OfSettings, Own}
 use Rattle.sheet_data.specs.declared.Part.{Part}
 use Rattle.sheet_data.specs.Layout.{most-parts, most-columns, needed}
-use Rattle.sheet_data.specs.Contents.{partAt, machAt, reynoldsAt}
+use Rattle.sheet_data.specs.Contents.{Contents, partAt, machAt, reynoldsAt}
 
 -- 0.001 and 100, ends of the house intervals
 abbrev pub 0·001 : Float
@@ -63,6 +63,10 @@ settingsTest s cells =
     then columnsTest s
     then unless (ltb cells (needed (s .count))) TooFewCells
 
+-- "An n outside [0, 100], NaN too, is refusal 11"
+abbrev pub nozzleTest : Float → Check
+nozzleTest n = inInterval 0·0 n 100·0
+
 -- a roughness of a part's own: "in [0, 1]"
 abbrev pub ownTest : PartRoughness → Check
 ownTest OfSettings = Passed
@@ -80,9 +84,11 @@ partTest p =
 unfoldable pub partsTest : List Part → Check
 partsTest ps = upTo (length ps) (λ i. partTest (partAt ps i))
 
--- "Edits and set column first test the sheet given: its settings as at open (10 last), 9 for a count above 16, 11 for held L, d, w by place"
-unfoldable pub sheetTest : Settings → ℕ → ℕ → List Part → Check
-sheetTest s cells count ps =
-    settingsTest s cells
+-- "Edits and set column first test the sheet given: its settings as at open (10 last), 9 for a count above 16, 11 for held L, d, w by place", and 11 for the held
+-- nozzle diameter "right after 10". The number of cells lent and the count are those of the sheet given
+unfoldable pub sheetTest : Contents → ℕ → ℕ → Check
+sheetTest c cells count =
+    settingsTest (c .settings) cells
+    then nozzleTest (c .nozzle)
     then unless (ltb most-parts count) DesignFull
-    then partsTest ps
+    then partsTest (c .parts)

@@ -3,8 +3,8 @@
 ghost use mathlib.Core.Path.{_≡_};
 ghost use Prim.Native.Nat.{_≤_};
 ghost use Rattle.sheet_data.specs.Layout.{most-parts, most-columns};
-ghost use Rattle.sheet_data.specs.Contents.{partsOf};
-ghost use Rattle.sheet_data.specs.Tests.{inInterval, ownTest, columnsTest, bodyTest, settingsTest, partTest, partsTest, sheetTest};
+ghost use Rattle.sheet_data.specs.Contents.{partsOf, contentsOf};
+ghost use Rattle.sheet_data.specs.Tests.{inInterval, ownTest, columnsTest, bodyTest, settingsTest, nozzleTest, partTest, partsTest, sheetTest};
 use crate::Design;
 use crate::Part;
 use crate::PartRoughness;
@@ -88,6 +88,13 @@ pub fn check_settings(settings: Settings, cells: usize) -> Check
     )
 }
 
+// A nozzle diameter, held or given.
+pub fn check_nozzle(nozzle_diameter: f64) -> Check
+    ensures { λ r. ⌜ r ≡ nozzleTest «nozzle_diameter» ⌝ }
+{
+    in_interval(0.0, nozzle_diameter, MOST_LENGTH)
+}
+
 // A roughness of a part's own.
 fn check_own(roughness: PartRoughness) -> Check
     ensures { λ r. ⌜ r ≡ ownTest roughness ⌝ }
@@ -134,12 +141,15 @@ fn check_parts(design: Design) -> Check
 
 // The sheet that a call is given, with `cells` cells lent.
 pub fn check_sheet(sheet: Sheet, cells: usize) -> Check
-    ensures { λ r. ⌜ r ≡ sheetTest (sheet .settings) cells (sheet .design .count) (partsOf (sheet .design)) ⌝ }
+    ensures { λ r. ⌜ r ≡ sheetTest (contentsOf sheet) cells (sheet .design .count) ⌝ }
 {
     let settings = sheet.settings;
     let design = sheet.design;
     let count = design.count;
-    let check = check_settings(settings, cells);
+    let check = then(
+        check_settings(settings, cells),
+        check_nozzle(sheet.nozzle_diameter),
+    );
     let Check::Passed = check else {
         return check;
     };

@@ -44,10 +44,11 @@ pub struct Design {
     pub parts: [Part; PARTS],
 }
 
-// A sheet: the settings, and the design that is looked at under them.
+// A sheet: the settings, the design that is looked at under them, and the nozzle diameter n, 0 when coasting.
 pub struct Sheet {
     pub settings: Settings,
     pub design: Design,
+    pub nozzle_diameter: f64,
 }
 
 impl Part {
@@ -67,7 +68,7 @@ impl Part {
 }
 
 impl Sheet {
-    // A sheet with no parts.
+    // A sheet with no parts, coasting.
     pub fn blank(settings: Settings) -> Sheet
         ensures { λ r. ⌜ r ≡ blank settings ⌝ }
     {
@@ -78,6 +79,7 @@ impl Sheet {
                 count: 0,
                 parts: [empty; PARTS],
             },
+            nozzle_diameter: 0.0,
         }
     }
 }

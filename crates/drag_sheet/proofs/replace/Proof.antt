@@ -38,7 +38,7 @@ returns-2 c =
     let f = facts e in
     let b = bounds (replace (s .args .place) (s .args .part)) (s .args .sheet .settings) (s .args .sheet .design .count) (f .arguments) in
     called-changed (s .args .sheet) _ (s .args .place) (s .args .part) (s .args .cells .now) _ _ _ (sym (e .before .before .check-replace .ensures) ∙ e .enum-told .given .1)
-    (ap (λ (d : Design). record { settings = s .args .sheet .settings; design = d }) (c .before .before .before .before .before .replaced-in .ensures)
+    (ap (λ (d : Design). record { settings = s .args .sheet .settings; design = d; «nozzle_diameter» = s .args .sheet .«nozzle_diameter» }) (c .before .before .before .before .before .replaced-in .ensures)
     ∙ replaced-sheet (s .args .sheet) (simp length-map at (s .good .0 .1 .1 .1 .0 .1 .1 .1 .0 .1 .0 .1)) (f .fits .parts) (s .args .place) (s .args .part) b)
     (c .before .before .before .write-changed .ensures) (c .answer-for .ensures)
 

@@ -45,8 +45,8 @@ built c =
     let n : length (s .args .sheet .settings .reynolds) ≡ most-columns = simp length-map at (s .good .0 .1 .1 .0 .1 .1 .1 .1 .1 .1 .1 .0 .1 .0 .1) in
     let ps = partsOf (s .args .sheet .design) in
     filled-same
-    (rw (c .before .before .before .one-column .ensures) (column-tried (s .args .sheet .settings) ps (s .args .column) (s .args .mach) (s .args .reynolds) (omega (arith, f .fits .columns)) (omega (arith, f .fits .columns))))
-    (rw (c .before .before .before .one-column .ensures) (column-built (s .args .sheet .settings) ps (s .args .column) (s .args .mach) (s .args .reynolds) (omega (arith, f .fits .columns)) (omega (arith, f .fits .columns))))
+    (rw (c .before .before .before .one-column .ensures) (column-tried (s .args .sheet .settings) ps (s .args .sheet .«nozzle_diameter») (s .args .column) (s .args .mach) (s .args .reynolds) (omega (arith, f .fits .columns)) (omega (arith, f .fits .columns))))
+    (rw (c .before .before .before .one-column .ensures) (column-built (s .args .sheet .settings) ps (s .args .sheet .«nozzle_diameter») (s .args .column) (s .args .mach) (s .args .reynolds) (omega (arith, f .fits .columns)) (omega (arith, f .fits .columns))))
     (c .build-rows .ensures)
 
 returns : tie.Need-returns
@@ -86,7 +86,7 @@ returns-3 c =
     let made = c .before .before .before .before .before .before .before .before .before in
     let v = built made in
     let ok = c .before .before .before .before .before .before .enum-told3 .given .1 in
-    called (setColumn (s .args .column) (s .args .mach) (s .args .reynolds)) (s .args .sheet) (s .args .cells .now) _ _ _ (record { settings = c .with-column .result; design = s .args .sheet .design }) (sym (e .before .before .check-set-column .ensures) ∙ e .enum-told .given .1) (v .verdict)
+    called (setColumn (s .args .column) (s .args .mach) (s .args .reynolds)) (s .args .sheet) (s .args .cells .now) _ _ _ (record { settings = c .with-column .result; design = s .args .sheet .design; «nozzle_diameter» = s .args .sheet .«nozzle_diameter» }) (sym (e .before .before .check-set-column .ensures) ∙ e .enum-told .given .1) (v .verdict)
     (rw (c .with-column .ensures) (column-sheet (s .args .sheet) (simp length-map at (s .good .0 .1 .1 .1 .0 .1 .1 .1 .0 .1 .0 .1)) (f .fits .parts) (s .args .column) (s .args .mach) (s .args .reynolds)))
     (rw ok) (c .before .before .before .write-column .ensures ∙ rw (ok, take-at (made .build-rows .last .1 .0) _ _ (made-long made), v .made (sym (v .verdict) ∙ ok)))
 

@@ -1,26 +1,31 @@
 -- `part_rows` meets its contract: the rows of the places before this one are written, and each of them could be.
-use mathlib.Core.Path.{_≡_, sym, _∙_}
+use mathlib.Core.Path.{_≡_, sym, ap, _∙_}
 use mathlib.Core.List.{List}
 use Prim.Native.Nat.{ℕ, _+_, _-_, _≤_}
 use native.Mathlib.Omega.{arith}
 use lib.ListN.{length, take, length-map}
 use lib.Seq.{length-take-le}
 use borrow.Rule.Slice.PartMut.{same-len-mid}
+use Rattle.elementary.specs.Constants.{0·0}
 use Rattle.aero_error.specs.CheckLaws.{up-failed, up-end}
 use Rattle.sheet_data.specs.declared.Part.{Part}
 use Rattle.sheet_data.specs.declared.Settings.{Settings}
-use Rattle.sheet_data.specs.Contents.{Contents, part-taken}
-use Rattle.sheet_data.specs.RowLaws.{middle-long}
-use Rattle.drag_sheet.specs.Build.{trial}
+use Rattle.sheet_data.specs.Layout.{most-parts}
+use Rattle.sheet_data.specs.Contents.{Contents, contentsOf, part-taken}
+use Rattle.sheet_data.specs.Rows.{from, rowsWritten}
+use Rattle.sheet_data.specs.RowLaws.{middle-long, from-below, rows-same}
+use Rattle.drag_sheet.specs.Build.{trial, rowOf}
+use Rattle.drag_sheet.specs.Calls.{withNozzle}
 use Rattle.drag_sheet.proofs.Verdicts.{filled-refused, filled-passed}
+use Rattle.drag_sheet.proofs.RowKinds.{same-trial, above-base}
 use Rattle.drag_sheet.proofs.Laying.{Laying, none-laid, prepared-next, laid-next}
 use borrow.Author.Needs.{needs}
 use Rattle.drag_sheet.proofs.rows.part_rows.Statement.{statement}
 use Rattle.drag_sheet.proofs.rows.part_rows.Tie as tie
 
--- the contents that the rows are made from
+-- the contents that the rows are made from; no part's row depends on the nozzle diameter
 abbrev contents : Settings → ℕ → List Part → Contents
-contents s n slots = record { settings = s; parts = take n slots }
+contents s n slots = record { settings = s; parts = take n slots; nozzle = 0·0 }
 
 abbrev Inv-loop : tie.InvT-loop
 Inv-loop cells₀ settings places parts count fore₀ place₀ cells fore place = Laying (contents settings places parts) places cells₀ cells fore place
@@ -59,7 +64,7 @@ returns c =
     let f = c .before .before .before .before .part-row in
     let h = c .before .before .before .before .before .before .before .before .loop-test .taken in
     let p = prepared-next (contents (s .args .sheet .settings) (s .args .sheet .design .count) (s .args .sheet .design .parts)) (at .inv) (part-taken _ _ _ h) (f .ensures) in
-    filled-refused (up-failed _ _ _ _ (at .inv .passed) (sym (p .verdict) ∙ c .enum-told2 .given .1) (omega (arith, long s))) (c .enum-told2 .given .1)
+    filled-refused (sym (same-trial 0·0 (contentsOf (s .args .sheet))) ∙ up-failed _ _ _ _ (at .inv .passed) (sym (p .verdict) ∙ c .enum-told2 .given .1) (omega (arith, long s))) (c .enum-told2 .given .1)
 
 loop-again : tie.Need-loop-again Inv-loop μ-loop
 loop-again c =
@@ -80,7 +85,11 @@ returns-2 c =
     let at = c .before .loop in
     let e : s .args .sheet .design .count ≡ at .place = omega (arith, at .inv .rows .turns) in
     let l = long s in
-    filled-passed (sym (up-end _ (omega (arith, at .inv .rows .turns)) (omega arith) (at .inv .passed))) (at .inv .rows .done ∙ rw e)
+    let all = contentsOf (s .args .sheet) in
+    filled-passed (sym (same-trial 0·0 all) ∙ sym (up-end _ (omega (arith, at .inv .rows .turns)) (omega arith) (at .inv .passed)))
+    (at .inv .rows .done
+    ∙ ap (λ (k : ℕ). rowsWritten (all .settings .count) (rowOf (withNozzle 0·0 all)) (from 0 k) (s .args .cells .now)) (sym e)
+    ∙ rows-same (all .settings .count) _ _ (from 0 (s .args .sheet .design .count)) most-parts _ (from-below 0 (s .args .sheet .design .count) most-parts (omega (arith, s .pre .parts))) (λ r h. above-base 0·0 all r (omega arith)))
 
 pub part-rows-spec : {M : Type 1} → statement M
 part-rows-spec =

@@ -6,7 +6,8 @@ use lib.ListN.{length, length-map}
 use Rattle.sheet_data.specs.Layout.{most-columns, finishes, base-row}
 use Rattle.sheet_data.specs.Contents.{contentsOf}
 use Rattle.sheet_data.specs.RowLaws.{middle-long, put-row}
-use Rattle.drag_sheet.specs.Body.{baseOver, baseArea}
+use Rattle.drag_sheet.specs.Formulas.{baseArea}
+use Rattle.drag_sheet.specs.Body.{baseOver}
 use Rattle.drag_sheet.specs.Build.{rowOf}
 use Rattle.drag_sheet.proofs.Taken.{prefix-long, taken-cells}
 use Rattle.drag_sheet.proofs.MadeRows.{base-made}

@@ -1,36 +1,32 @@
--- `write_body` meets its contract: the friction rows, the base row and the total rows, written in this order.
-use mathlib.Core.Path.{ap, _∙_}
+-- `write_body` meets its contract: the friction rows, then the base row and the total rows.
+use mathlib.Core.Path.{_∙_}
 use native.Mathlib.Omega.{arith}
-use Rattle.sheet_data.specs.Rows.{rowsWritten}
-use Rattle.drag_sheet.specs.Writing.{totalled}
-use Rattle.drag_sheet.specs.Calls.{bodyRows}
+use Rattle.sheet_data.specs.Layout.{finishes, friction-row}
+use Rattle.sheet_data.specs.Contents.{contentsOf}
+use Rattle.sheet_data.specs.Rows.{from}
+use Rattle.sheet_data.specs.RowLaws.{rows-append}
+use Rattle.drag_sheet.specs.Build.{rowOf}
+use Rattle.drag_sheet.specs.Calls.{nozzleRows, bodyRows}
 use borrow.Author.Needs.{needs}
 use Rattle.drag_sheet.proofs.rows.write_body.Statement.{statement}
 use Rattle.drag_sheet.proofs.rows.write_body.Tie as tie
 
-write-base-requires : tie.Need-write-base-requires
-write-base-requires c κs =
+write-nozzle-rows-requires : tie.Need-write-nozzle-rows-requires
+write-nozzle-rows-requires c κs =
     let f = c .before .before .before in
     let s = f .before .before .before in
     record { columns = s .pre .columns; parts = s .pre .parts; room = omega (arith, s .pre .room, f .write-frictions .kept .1 .0) }
 
-write-totals-requires : tie.Need-write-totals-requires
-write-totals-requires c κs =
-    let b = c .before .before .before in
-    let f = b .before .before .before .before in
-    let s = f .before .before .before in
-    (s .pre .columns, omega (arith, s .pre .room, b .write-base .kept .1 .0, f .write-frictions .kept .1 .0))
-
 returns : tie.Need-returns
-unfolding bodyRows rowsWritten
+unfolding bodyRows
 returns c =
-    let b = c .before .before .before .before .before .before in
-    let f = b .before .before .before .before in
+    let f = c .before .before .before .before .before .before in
     let s = f .before .before .before in
-    c .before .before .write-totals .ensures ∙ ap (totalled (s .args .sheet .settings .count)) (b .write-base .ensures ∙ rw (f .write-frictions .ensures))
+    c .before .before .write-nozzle-rows .ensures
+    ∙ rw (f .write-frictions .ensures, rows-append (s .args .sheet .settings .count) (rowOf (contentsOf (s .args .sheet))) nozzleRows (from (friction-row 0) finishes) (s .args .cells .now))
 
 pub write-body-spec : {M : Type 1} → statement M
 write-body-spec =
     tie.close
     (tie.spec
-    (λ c κs. c .before .before .pre) write-base-requires write-totals-requires (λ c. search needs) returns)
+    (λ c κs. c .before .before .pre) write-nozzle-rows-requires (λ c. search needs) returns)
