@@ -20,6 +20,7 @@ use Rattle.drag_sheet.specs.Writing.{whole, overwritten}
 use Rattle.drag_sheet.specs.Calls.{Call, insert, insertAt, Called, Opened}
 use Rattle.drag_sheet.specs.Model.{openedModel, modelDecision, moved, modelAfter, modelDecisions}
 use Rattle.drag_sheet.specs.Lists.{Sequence, stop, go, Matches}
+use Rattle.drag_sheet.proofs.TestsKept.{Tested, tested-open, tested-through}
 use Rattle.drag_sheet.proofs.ListsLaw.{lists-agree}
 use Rattle.cards.specs.declared.SettingsRead.{SettingsRead}
 use Rattle.cards.proofs.Arrays.{Long, settings-long}
@@ -55,12 +56,12 @@ tail-of (c ∷ cs) = cs
 
 -- what the model holds once it has accepted them
 appended : (cells : ℕ) (ps : List Part) (m : Contents) → modelDecisions cells (inserts (length (m .parts)) ps) m ≡ accepted ps
-    → modelAfter cells (inserts (length (m .parts)) ps) m ≡ record { settings = m .settings; parts = m .parts ++ ps }
+    → modelAfter cells (inserts (length (m .parts)) ps) m ≡ record { settings = m .settings; parts = m .parts ++ ps; nozzle = m .nozzle }
 unfolding modelDecisions modelAfter
 appended cells [] m e = rw (append-nil (m .parts))
 appended cells (p ∷ ps) m e =
     let call = insert (length (m .parts)) p in
-    let new : Contents = record { settings = m .settings; parts = m .parts ++ (p ∷ []) } in
+    let new : Contents = record { settings = m .settings; parts = m .parts ++ (p ∷ []); nozzle = m .nozzle } in
     let d : modelDecision cells call m ≡ Passed = ap head-of e in
     let n : length (m .parts ++ (p ∷ [])) ≡ length (m .parts) + 1 = length-append (m .parts) (p ∷ []) in
     let w : moved cells call m ≡ new = rw (d, at-end p (m .parts)) in
@@ -69,7 +70,7 @@ appended cells (p ∷ ps) m e =
     ap (λ (z : Contents). modelAfter cells (inserts (length (m .parts) + 1) ps) z) w
     ∙ ap (λ (k : ℕ). modelAfter cells (inserts k ps) new) (sym n)
     ∙ appended cells ps new f
-    ∙ ap (λ (qs : List Part). record { settings = m .settings; parts = qs }) (append-assoc (m .parts) (p ∷ []) ps)
+    ∙ ap (λ (qs : List Part). record { settings = m .settings; parts = qs; nozzle = m .nozzle }) (append-assoc (m .parts) (p ∷ []) ps)
 
 -- ---- a run that stops well made these calls, and each was accepted
 
@@ -110,7 +111,8 @@ module _ (s : List ℕ) (xs : List Float) where
   abbrev opened : Ran
   opened = allPartCards s (card .next) (blank (card .settings)) (overwritten whole (contentsOf (blank (card .settings))) xs)
 
-  built-from : settingsTest (card .settings) (length xs) ≡ Passed → outcome opened ≡ Passed → Matches (opened .run .sheet) (opened .cells) (said s)
+  -- what the model holds then is what the cards say, and it passes the tests of a sheet given
+  built-from : settingsTest (card .settings) (length xs) ≡ Passed → outcome opened ≡ Passed → Matches (opened .run .sheet) (opened .cells) (said s) × Tested (said s) (length xs)
   built-from t o =
       let sheet = blank (card .settings) in
       let ys = overwritten whole (contentsOf sheet) xs in
@@ -120,14 +122,23 @@ module _ (s : List ℕ) (xs : List Float) where
       let long = first-arrays s in
       let a = lists-agree (card .settings) xs answer ys (long .0) (long .1) z .accepted refl (sequence (length s) s (card .next) sheet ys (omega arith) (omega arith) o) in
       let d : modelDecisions (length xs) (inserts 0 ps) (openedModel (card .settings)) ≡ accepted ps = sym (all-told-apart _ _ (a .answers)) in
-      subst (Matches (opened .run .sheet) (opened .cells)) (appended (length xs) ps (openedModel (card .settings)) d) (a .matches)
+      let model = appended (length xs) ps (openedModel (card .settings)) d in
+      let tested = tested-through (length xs) (inserts 0 ps) (openedModel (card .settings)) (tested-open (card .settings) (length xs) t) in
+      (subst (Matches (opened .run .sheet) (opened .cells)) model (a .matches), subst (λ (c : Contents). Tested c (length xs)) model tested)
 
-  -- the settings and the design are what the cards say, and the rows are one build of them
-  pub stream-built : outcome (streamOf s xs) ≡ Passed → Matches (streamOf s xs .run .sheet) (streamOf s xs .cells) (said s)
-  stream-built o =
+  both : outcome (streamOf s xs) ≡ Passed → Matches (streamOf s xs .run .sheet) (streamOf s xs .cells) (said s) × Tested (said s) (length xs)
+  both o =
       let q = stream-passed s xs card refl o in
       let e = stream-opened s xs card refl (q .0) (q .1) in
       rw e (built-from (q .1) (ap outcome (sym e) ∙ o))
+
+  -- the settings and the design are what the cards say, and the rows are one build of them
+  pub stream-built : outcome (streamOf s xs) ≡ Passed → Matches (streamOf s xs .run .sheet) (streamOf s xs .cells) (said s)
+  stream-built o = both o .0
+
+  -- and they pass the tests of a sheet given
+  pub stream-tested : outcome (streamOf s xs) ≡ Passed → Tested (said s) (length xs)
+  stream-tested o = both o .1
 
 -- the same of what `run_stream` answers and leaves
 pub run-built : (s : List ℕ) (xs : List Float) (r : Run) (ys : List Float) → Stopped (streamOf s xs) r ys → r .outcome ≡ Passed → Matches (r .sheet) ys (said s)

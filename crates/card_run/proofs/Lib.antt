@@ -4,5 +4,6 @@ pub mod Answers
 pub mod Prefix
 pub mod Never
 pub mod Built
+pub mod Coasting
 pub mod NoCard
 pub mod Cut

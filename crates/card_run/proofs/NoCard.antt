@@ -4,6 +4,7 @@ use mathlib.Core.List.{List, [], _∷_, _++_}
 use Prim.Native.Nat.{ℕ, _≤_, _<_}
 use native.Mathlib.Omega.{arith}
 use lib.ListN.{length, drop}
+use Rattle.elementary.specs.Constants.{0·0}
 use lib.Ieee.{Float, le, ofBits}
 use borrow.Author.Tests.{le-ltb}
 use Rattle.elementary.specs.Tests.{between}
@@ -56,7 +57,7 @@ module _ (xs : List Float) where
   no-bytes = alone [] noCard refl refl (omega arith)
 
   -- so it is one build from nothing of these settings and no parts
-  pub no-bytes-built : Matches (blank (noCard .settings)) xs (record { settings = noCard .settings; parts = [] })
+  pub no-bytes-built : Matches (blank (noCard .settings)) xs (record { settings = noCard .settings; parts = []; nozzle = 0·0 })
   unfolding partsSaid
   no-bytes-built =
       subst (λ (r : Ran). Matches (r .run .sheet) (r .cells) (said [])) no-bytes (stream-built [] xs (ap outcome no-bytes))

@@ -6,6 +6,7 @@ use mathlib.Core.List.{List, [], _∷_}
 use Prim.Native.Nat.{ℕ, zero, suc}
 use lib.ListN.{length}
 use lib.Dec.{ltb}
+use Rattle.elementary.specs.Constants.{0·0}
 use Rattle.sheet_data.specs.declared.Part.{Part}
 use Rattle.sheet_data.specs.Contents.{Contents}
 use Rattle.cards.specs.declared.PartRead.{PartRead}
@@ -23,6 +24,6 @@ unfoldable pub partsSaid : ℕ → List ℕ → ℕ → List Part
 partsSaid zero s at = []
 partsSaid (suc n) s at = cond (ltb at (length s)) (withPart (partAt s at) (partsSaid n s)) []
 
--- each card takes a byte at least, so no stream of n bytes has more than n
+-- each card takes a byte at least, so no stream of n bytes has more than n. No card carries a nozzle diameter
 abbrev pub said : List ℕ → Contents
-said s = let card = firstCard s in record { settings = card .settings; parts = partsSaid (length s) s (card .next) }
+said s = let card = firstCard s in record { settings = card .settings; parts = partsSaid (length s) s (card .next); nozzle = 0·0 }

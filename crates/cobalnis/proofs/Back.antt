@@ -2,11 +2,11 @@
 -- handed back. The one hypothesis is what the types of the code say: the arrays are as long as they are, and each number is a binary64 number.
 use mathlib.Core.Path.{_≡_, refl, sym, ap, _∙_, subst}
 use mathlib.Core.List.{List, [], _∷_, _++_, append-assoc, append-nil}
-use Prim.Native.Nat.{ℕ, _-_}
+use Prim.Native.Nat.{ℕ, _+_, _-_}
 use native.Mathlib.Omega.{arith}
 use lib.Dec.{T}
 use lib.ListN.{length, getD, drop, replicate, length-append}
-use lib.Seq.{drop-at, drop-drop, getD-at}
+use lib.Seq.{drop-at, drop-drop, getD-at, getD-append-add}
 use lib.Ieee.{Float, binary64, fits, toBits}
 use lib.Ieee.Bits.{ofBits-toBits}
 use Rattle.shapes.specs.declared.NoseShape.{NoseShape}
@@ -19,7 +19,7 @@ use Rattle.sheet_data.specs.declared.Part.{Part}
 use Rattle.sheet_data.specs.declared.Sheet.{Sheet}
 use Rattle.sheet_data.specs.Layout.{most-columns, most-parts}
 use Rattle.sheet_data.specs.Contents.{emptyPart}
-use Rattle.cobalnis.specs.Words.{first-part, machs-at, part-words, settings-words, every, spread, float, floatWords, ownOf, ownFlag, ownBits, partOf, partWords, sheetOf, sheetWords}
+use Rattle.cobalnis.specs.Words.{first-part, machs-at, nozzle-at, parts-at, part-words, settings-words, every, spread, float, floatWords, ownOf, ownFlag, ownBits, partOf, partWords, sheetOf, sheetWords}
 use Rattle.cobalnis.proofs.Turns.{spread-long}
 
 -- ---- what the types say
@@ -50,6 +50,7 @@ pub record SheetHeld (s : Sheet) : Type 0 where
   pub machs : Each Number (s .settings .machs)
   pub reynolds : Each Number (s .settings .reynolds)
   pub parts : Each PartHeld (s .design .parts)
+  pub nozzle : Number (s .«nozzle_diameter»)
   pub machs-long : length (s .settings .machs) ≡ most-columns
   pub reynolds-long : length (s .settings .reynolds) ≡ most-columns
   pub parts-long : length (s .design .parts) ≡ most-parts
@@ -108,7 +109,7 @@ read-back s h =
     let m = spread floatWords (s .settings .machs) in
     let r = spread floatWords (s .settings .reynolds) in
     let ps = spread partWords (s .design .parts) in
-    let tail = s .design .count ∷ ps in
+    let tail = toBits binary64 (s .«nozzle_diameter») ∷ s .design .count ∷ ps in
     let ml : length m ≡ most-columns = let e = spread-long floatWords 1 (λ x. refl) (s .settings .machs) in omega (arith, e, h .machs-long) in
     let rl : length r ≡ most-columns = let e = spread-long floatWords 1 (λ x. refl) (s .settings .reynolds) in omega (arith, e, h .reynolds-long) in
     let mr : length (m ++ r) ≡ (settings-words - machs-at) = let e = length-append m r in omega (arith, e, ml, rl) in
@@ -120,11 +121,14 @@ read-back s h =
     ap (λ (ws : List ℕ). every float 1 most-columns (drop most-columns ws)) split
     ∙ ap (every float 1 most-columns) (drop-at m (r ++ tail) most-columns ml)
     ∙ subst (λ (n : ℕ). every float 1 n (r ++ tail) ≡ s .settings .reynolds) (h .reynolds-long) (each-back float 1 floatWords Number float-back (s .settings .reynolds) tail (h .reynolds)) in
-    let count : getD ((m ++ r) ++ tail) (settings-words - machs-at) 0 ≡ s .design .count = getD-at (m ++ r) (s .design .count) ps 0 (settings-words - machs-at) mr in
+    let nozzle : getD ((m ++ r) ++ tail) (nozzle-at - machs-at) 0 ≡ toBits binary64 (s .«nozzle_diameter») = getD-at (m ++ r) _ (s .design .count ∷ ps) 0 (nozzle-at - machs-at) mr in
+    let after : parts-at - machs-at ≡ length (m ++ r) + 1 = omega (arith, mr) in
+    let count : getD ((m ++ r) ++ tail) (parts-at - machs-at) 0 ≡ s .design .count = ap (λ (k : ℕ). getD ((m ++ r) ++ tail) k 0) after ∙ getD-append-add (m ++ r) tail 1 0 in
     let parts : every partOf part-words most-parts (drop (first-part - machs-at) ((m ++ r) ++ tail)) ≡ s .design .parts =
-    ap (every partOf part-words most-parts) (sym (drop-drop 1 (settings-words - machs-at) ((m ++ r) ++ tail)) ∙ ap (drop 1) (drop-at (m ++ r) tail (settings-words - machs-at) mr) ∙ sym (append-nil ps))
+    ap (every partOf part-words most-parts) (sym (drop-drop 2 (settings-words - machs-at) ((m ++ r) ++ tail)) ∙ ap (drop 2) (drop-at (m ++ r) tail (settings-words - machs-at) mr) ∙ sym (append-nil ps))
     ∙ subst (λ (n : ℕ). every partOf part-words n (ps ++ []) ≡ s .design .parts) (h .parts-long) (each-back partOf part-words partWords PartHeld part-back (s .design .parts) [] (h .parts)) in
     let d = number-back (s .settings .«reference_diameter») (h .diameter) in
     let k = number-back (s .settings .roughness) (h .roughness) in
     let b = number-back (s .settings .«body_fineness») (h .fineness) in
-    rw (d, k, b, machs, reynolds, count, parts)
+    let n = number-back (s .«nozzle_diameter») (h .nozzle) in
+    rw (d, k, b, machs, reynolds, nozzle, n, count, parts)

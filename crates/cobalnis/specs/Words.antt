@@ -1,7 +1,7 @@
 -- A part and a sheet as words of 64 bits: what a list of words stands for, and the words of a part and of a sheet. A float is the word of its bits.
 --
 --   a part's words: the shape's number, its parameter, length, aft diameter, joint angle, wetted ratio, whether the roughness is its own, and that roughness
---   a sheet's words: reference diameter, roughness, body fineness, number of columns, the Machs, the Reynolds numbers, number of parts, the parts
+--   a sheet's words: reference diameter, roughness, body fineness, number of columns, the Machs, the Reynolds numbers, nozzle diameter, number of parts, the parts
 use mathlib.Core.Bool.{Bool, true, false, cond}
 use mathlib.Core.List.{List, [], _∷_, _++_}
 use Prim.Native.Nat.{ℕ, zero, suc, _+_, _*_}
@@ -31,9 +31,15 @@ reynolds-at = machs-at + most-columns
 abbrev pub settings-words : ℕ
 settings-words = reynolds-at + most-columns
 
--- the parts, after the settings and the number of parts
+-- after the settings the nozzle diameter, the number of parts and the parts
+abbrev pub nozzle-at : ℕ
+nozzle-at = settings-words
+
+abbrev pub parts-at : ℕ
+parts-at = nozzle-at + 1
+
 abbrev pub first-part : ℕ
-first-part = settings-words + 1
+first-part = parts-at + 1
 
 abbrev pub sheet-words : ℕ
 sheet-words = first-part + most-parts * part-words
@@ -73,7 +79,11 @@ settingsOf ws = record {
 }
 
 abbrev pub sheetOf : List ℕ → Sheet
-sheetOf ws = record { settings = settingsOf ws; design = record { count = getD ws settings-words 0; parts = every partOf part-words most-parts (drop first-part ws) } }
+sheetOf ws = record {
+  settings = settingsOf ws;
+  design = record { count = getD ws parts-at 0; parts = every partOf part-words most-parts (drop first-part ws) };
+  «nozzle_diameter» = bits (getD ws nozzle-at 0);
+}
 
 -- whether each of n parts has a shape's number up to 5
 unfoldable pub shapesKnown : ℕ → List ℕ → Bool
@@ -121,4 +131,4 @@ settingsWords s =
 
 unfoldable pub sheetWords : Sheet → List ℕ
 unfolding spread
-sheetWords sheet = settingsWords (sheet .settings) ++ (sheet .design .count ∷ spread partWords (sheet .design .parts))
+sheetWords sheet = settingsWords (sheet .settings) ++ (toBits binary64 (sheet .«nozzle_diameter») ∷ sheet .design .count ∷ spread partWords (sheet .design .parts))

@@ -1,6 +1,6 @@
 // The sheet's calls on a sheet of words, answered in words.
 ghost use mathlib.Core.Path.{_≡_};
-ghost use Rattle.drag_sheet.specs.Calls.{insert as insertCall, remove as removeCall, replace as replaceCall, setColumn as columnCall};
+ghost use Rattle.drag_sheet.specs.Calls.{insert as insertCall, remove as removeCall, replace as replaceCall, setColumn as columnCall, ignite as igniteCall, burnout as burnoutCall};
 ghost use Rattle.cobalnis.specs.Words.{partOf};
 ghost use Rattle.cobalnis.specs.Answers.{Shown, CallDone, OpenShown, sheetKnown, partKnown};
 use crate::answers::refuse;
@@ -117,6 +117,37 @@ pub extern "C" fn cobalnis_set_column(
     if words::shapes_known(words) {
         let sheet = words::sheet_of(words);
         let answer = drag_sheet::set_column(sheet, column, mach, reynolds, cells);
+        return show(answer, words, bits);
+    }
+    refuse(AeroError::Broken(Rule::ReservedBit), bits)
+}
+
+#[no_mangle]
+pub extern "C" fn cobalnis_ignite(
+    words: &mut [u64; SHEET_WORDS],
+    nozzle_diameter: f64,
+    cells: &mut [f64],
+    bits: &mut u64,
+) -> u32
+    ensures { λ r. ⌜ CallDone (sheetKnown (now (words .entry))) (igniteCall «nozzle_diameter») (now (words .entry)) (now (cells .entry)) r (now (words .exit)) (now (bits .exit)) (now (cells .exit)) ⌝ }
+{
+    if words::shapes_known(words) {
+        let answer = drag_sheet::ignite(words::sheet_of(words), nozzle_diameter, cells);
+        return show(answer, words, bits);
+    }
+    refuse(AeroError::Broken(Rule::ReservedBit), bits)
+}
+
+#[no_mangle]
+pub extern "C" fn cobalnis_burnout(
+    words: &mut [u64; SHEET_WORDS],
+    cells: &mut [f64],
+    bits: &mut u64,
+) -> u32
+    ensures { λ r. ⌜ CallDone (sheetKnown (now (words .entry))) burnoutCall (now (words .entry)) (now (cells .entry)) r (now (words .exit)) (now (bits .exit)) (now (cells .exit)) ⌝ }
+{
+    if words::shapes_known(words) {
+        let answer = drag_sheet::burnout(words::sheet_of(words), cells);
         return show(answer, words, bits);
     }
     refuse(AeroError::Broken(Rule::ReservedBit), bits)

@@ -16,7 +16,7 @@ use sheet_data::Sheet;
 use sheet_data::layout::COLUMNS;
 use sheet_data::layout::PARTS;
 
-// Where the words lie: the Machs, the Reynolds numbers, the number of parts, the parts.
+// Where the words lie: the Machs, the Reynolds numbers, the nozzle diameter, the number of parts, the parts.
 pub const PART_WORDS: usize = 8;
 
 pub const MACHS_AT: usize = 4;
@@ -25,7 +25,11 @@ pub const REYNOLDS_AT: usize = MACHS_AT + COLUMNS;
 
 pub const SETTINGS_WORDS: usize = REYNOLDS_AT + COLUMNS;
 
-pub const FIRST_PART: usize = SETTINGS_WORDS + 1;
+pub const NOZZLE_AT: usize = SETTINGS_WORDS;
+
+pub const PARTS_AT: usize = NOZZLE_AT + 1;
+
+pub const FIRST_PART: usize = PARTS_AT + 1;
 
 pub const SHEET_WORDS: usize = FIRST_PART + PARTS * PART_WORDS;
 
@@ -112,9 +116,10 @@ pub fn sheet_of(words: &[u64; SHEET_WORDS]) -> Sheet
     Sheet {
         settings,
         design: Design {
-            count: words[SETTINGS_WORDS] as usize,
+            count: words[PARTS_AT] as usize,
             parts,
         },
+        nozzle_diameter: elementary::from_bits(words[NOZZLE_AT]),
     }
 }
 
@@ -229,7 +234,8 @@ pub fn sheet_words(sheet: Sheet) -> [u64; SHEET_WORDS]
     let parts = design.parts;
     let mut out = [0u64; SHEET_WORDS];
     put_settings(settings, &mut out);
-    out[SETTINGS_WORDS] = design.count as u64;
+    out[NOZZLE_AT] = elementary::to_bits(sheet.nozzle_diameter);
+    out[PARTS_AT] = design.count as u64;
     put_parts(parts, &mut out);
     out
 }

@@ -1,12 +1,12 @@
--- Any call on any sheet and cells: accepted, with what it leaves, or refused, with what was given. Nothing past the rows is written, and replacing a part writes
--- no row but its own, the next part's where there is one, friction, base and total.
+-- Any call on any sheet and cells: accepted, with what it leaves, or refused, with what was given. Nothing past the rows is written, replacing a part writes no row
+-- but its own, the next part's where there is one, friction, base and total, and ignite and burnout none but base and total.
 use mathlib.Core.Path.{_≡_, refl, sym, ap, _∙_, subst}
 use mathlib.Core.Logic.{dite, _≢_}
 use mathlib.Core.List.{List}
 use Prim.Native.Nat.{ℕ, _+_, _-_, _≤_, _<_}
 use native.Mathlib.Decide.{decLt, ℕ-discrete}
 use native.Mathlib.Omega.{arith}
-use lib.ListN.{length, drop, length-set}
+use lib.ListN.{length, drop, set, length-set, length-take}
 use lib.Seq.{length-take-le}
 use lib.Ieee.{Float}
 use Rattle.aero_error.specs.declared.AeroError.{AeroError}
@@ -17,10 +17,10 @@ use Rattle.sheet_data.specs.declared.Part.{Part}
 use Rattle.sheet_data.specs.declared.Sheet.{Sheet}
 use Rattle.sheet_data.specs.Layout.{most-parts, finishes, friction-row, base-row, total-row, all-rows, needed}
 use Rattle.sheet_data.specs.Contents.{Contents, contentsOf, partsOf}
-use Rattle.sheet_data.specs.Rows.{rowAt}
+use Rattle.sheet_data.specs.Rows.{Unnamed, rowAt}
 use Rattle.drag_sheet.specs.declared.Answer.{Answer}
-use Rattle.drag_sheet.specs.Writing.{overwritten}
-use Rattle.drag_sheet.specs.Calls.{Call, replace, insert, remove, setColumn, ignite, burnout, applied, scope, tries, after, callTest, decision, sheetWith, Called}
+use Rattle.drag_sheet.specs.Writing.{Scope, rows, overwritten}
+use Rattle.drag_sheet.specs.Calls.{Call, replace, insert, remove, setColumn, ignite, burnout, applied, nozzleRows, scope, tries, after, callTest, decision, sheetWith, Called}
 use Rattle.drag_sheet.specs.Lists.{Arrays}
 use Rattle.drag_sheet.proofs.Verdicts.{never}
 use Rattle.drag_sheet.proofs.Slots.{inserted-long, removed-long}
@@ -126,16 +126,34 @@ module _ (sheet : Sheet) (arrays : Arrays sheet) (xs : List Float) (r : Answer) 
       by (refusal e p a l) = rw l
       by (accepted p a l) = rw l (left call sheet xs (shown call sheet xs (arrays .slots) p) .cells .past)
 
+  -- of a call that writes rows and then the totals, a row that it doesn't name stays
+  unnamed-kept : (call : Call) (named : List ℕ) → scope call (after call sheet) ≡ rows named → Called call sheet xs r ys → (row : ℕ) → row < total-row finishes 0 → Unnamed named row
+      → rowAt (sheet .settings .count) ys row ≡ rowAt (sheet .settings .count) xs row
+  unnamed-kept call named e c row h u = by (ended call sheet xs r ys c)
+    where
+      by : Ended call sheet xs r ys → rowAt (sheet .settings .count) ys row ≡ rowAt (sheet .settings .count) xs row
+      by (refusal x q a l) = rw l
+      by (accepted q a l) =
+          let s = shown call sheet xs (arrays .slots) q in
+          let new = after call sheet in
+          let w = same-width call (contentsOf sheet) in
+          let below = subst (λ (z : Scope). Inside z (sheet .settings .count)) e (scope-inside call (contentsOf sheet) (s .within) (s .few)) in
+          rw (l, e) (subst (λ n. rowAt n (overwritten (rows named) new xs) row ≡ rowAt n xs row) w (other-rows new xs (omega (arith, ap needed w, s .facts .fits .room)) named below row h u))
+
   -- "Replacing a part changes no cells but its own row, the next part's, and the friction, base and total rows": with no part after it the row there stays too
   pub other-rows-kept : (place : ℕ) (p : Part) → Called (replace place p) sheet xs r ys → (row : ℕ) → row < all-rows finishes → NotBody row → row ≢ place → (row ≡ place + 1 → sheet .design .count ≤ place + 1)
       → rowAt (sheet .settings .count) ys row ≡ rowAt (sheet .settings .count) xs row
-  other-rows-kept place p c row h part i j = by (ended (replace place p) sheet xs r ys c)
+  other-rows-kept place p c row h part i j =
+      let few = not-body row h part in
+      let none : row ≡ place + 1 → length (set (partsOf (sheet .design)) place p) ≤ place + 1 = λ e. omega (arith, j e, length-set (partsOf (sheet .design)) place p, taken-few) in
+      unnamed-kept (replace place p) _ refl c row (omega arith) (body-not-part (contentsOf sheet) place p row few i none)
     where
-      by : Ended (replace place p) sheet xs r ys → rowAt (sheet .settings .count) ys row ≡ rowAt (sheet .settings .count) xs row
-      by (refusal e q a l) = rw l
-      by (accepted q a l) =
-          let s = shown (replace place p) sheet xs (arrays .slots) q in
-          let new = after (replace place p) sheet in
-          let few = not-body row h part in
-          let none : row ≡ place + 1 → length (new .parts) ≤ place + 1 = λ e. omega (arith, j e, s .long, length-set (partsOf (sheet .design)) place p) in
-          rw l (other-rows new xs (s .facts .fits .room) _ (scope-inside (replace place p) (contentsOf sheet) (s .within) (s .few)) row (omega arith) (body-not-part (contentsOf sheet) place p row few i none))
+      taken-few : length (partsOf (sheet .design)) ≤ sheet .design .count
+      taken-few = rw (length-take (sheet .design .count) (sheet .design .parts)) (omega arith)
+
+  -- ignite and burnout "write the base and total rows": no part row and no friction row is changed
+  pub ignite-rows-kept : (n : Float) → Called (ignite n) sheet xs r ys → (row : ℕ) → row < base-row finishes → rowAt (sheet .settings .count) ys row ≡ rowAt (sheet .settings .count) xs row
+  ignite-rows-kept n c row h = unnamed-kept (ignite n) nozzleRows refl c row (omega arith) ((λ e. omega arith), tt)
+
+  pub burnout-rows-kept : Called burnout sheet xs r ys → (row : ℕ) → row < base-row finishes → rowAt (sheet .settings .count) ys row ≡ rowAt (sheet .settings .count) xs row
+  burnout-rows-kept c row h = unnamed-kept burnout nozzleRows refl c row (omega arith) ((λ e. omega arith), tt)

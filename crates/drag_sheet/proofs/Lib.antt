@@ -20,4 +20,5 @@ pub mod CallLaws
 pub mod ListsLaw
 pub mod TestsKept
 pub mod OnlyCurves
+pub mod Nozzle
 pub mod Places

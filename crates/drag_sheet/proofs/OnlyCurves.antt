@@ -3,7 +3,7 @@
 use mathlib.Core.Path.{_≡_, refl, sym, ap, _∙_}
 use mathlib.Core.Logic.{⊎-elim}
 use mathlib.Core.Bool.{Bool, true, false, cond}
-use Prim.Native.Nat.{ℕ, zero, suc, _+_, _<_}
+use Prim.Native.Nat.{ℕ, zero, suc, _+_, _≤_, _<_}
 use native.Mathlib.Omega.{arith}
 use lib.ListN.{length, length-set}
 use lib.Seq.{length-take-le}
@@ -39,7 +39,7 @@ use Rattle.sheet_data.proofs.Held.{inside, given-own}
 use Rattle.drag_sheet.specs.declared.part.Row.the-variants.{Widening, Narrowing, Level}
 use Rattle.drag_sheet.specs.declared.part.Prepared.{Prepared}
 use Rattle.drag_sheet.specs.declared.part.Prepared.the-variants.{Ready, Refused as NotReady}
-use Rattle.drag_sheet.specs.Formulas.{areaRatio, withCurve, preparedOf, cellOf, cellFrom, readyTest, madeTest, roughnessOf}
+use Rattle.drag_sheet.specs.Formulas.{areaRatio, withCurve, preparedOf, cellOf, cellFrom, readyTest, madeTest, roughnessOf, lastDiameter}
 use Rattle.drag_sheet.specs.Build.{preparedAt, rowTest, trial}
 use Rattle.drag_sheet.specs.Calls.{Call, replace, insert, remove, setColumn, ignite, burnout, applied, argumentsTest, rowTestWhere, columnTrial, tries, after, callTest, decision}
 use Rattle.drag_sheet.proofs.Verdicts.{never}
@@ -163,16 +163,20 @@ made {f} {part} M (narrows n) fore s m h =
 made M level fore s m h = refl
 
 -- the fore diameter is an aft diameter, or +0
-fore-inside : (c : Contents) → Ranges c → (i : ℕ) → i < length (c .parts) → between 0·0 (foreAt (c .parts) i) 100·0 ≡ true
+fore-inside : (c : Contents) → Ranges c → (i : ℕ) → i ≤ length (c .parts) → between 0·0 (foreAt (c .parts) i) 100·0 ≡ true
 unfolding foreAt
 fore-inside c r zero h = zero-inside
 fore-inside c r (suc i) h = r .parts i (omega arith) .aft
 
 module _ (c : Contents) (cells : ℕ) (tested : Tested c cells) where
+  -- the last diameter too
+  pub last-inside : between 0·0 (lastDiameter c) 100·0 ≡ true
+  last-inside = fore-inside c (ranges c cells tested) (length (c .parts)) (omega arith)
+
   made-at : (i k : ℕ) → i < length (c .parts) → k < c .settings .count → readyTest (preparedAt c i) ≡ Passed → madeTest (cellFrom (preparedAt c i) (machAt (c .settings) k)) ≡ Passed
   made-at i k h l =
       let r = ranges c cells tested in
-      made (machAt (c .settings) k) (way (c .settings .«reference_diameter») (foreAt (c .parts) i) (partAt (c .parts) i)) (fore-inside c r i h) (r .parts i h) (passed-at c r k l)
+      made (machAt (c .settings) k) (way (c .settings .«reference_diameter») (foreAt (c .parts) i) (partAt (c .parts) i)) (fore-inside c r i (omega arith)) (r .parts i h) (passed-at c r k l)
 
   -- once ready, no column refuses
   pub row-ready : (i : ℕ) → i < length (c .parts) → rowTest c i ≡ readyTest (preparedAt c i)

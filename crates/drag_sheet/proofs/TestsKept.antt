@@ -1,4 +1,5 @@
--- The tests of a sheet hold of the contents that a call leaves, where they held before and the call's own arguments passed theirs.
+-- The tests of a sheet hold of the contents that a call leaves, where they held before and the call's own arguments passed theirs; so they hold of the model after
+-- an accepted open and every list of calls.
 use mathlib.Core.Path.{_≡_, refl}
 use mathlib.Core.Bool.{true}
 use mathlib.Core.List.{List, [], _∷_, _++_}
@@ -11,11 +12,12 @@ use lib.Ieee.{Float, nan, lt, le, eq, ofBits}
 use borrow.Author.Tests.{ltb-false, le-ltb}
 use Rattle.elementary.specs.Tests.{between}
 use Rattle.elementary.specs.Constants.{0·0}
-use Rattle.aero_error.specs.declared.Check.the-variants.{Passed}
+use Rattle.aero_error.specs.declared.Check.{Check}
+use Rattle.aero_error.specs.declared.Check.the-variants.{Passed, Failed}
 use Rattle.aero_error.specs.declared.Quantity.the-variants.{Reynolds}
 use Rattle.aero_error.specs.declared.Rule.the-variants.{TooManyColumns, DesignFull, NoSuchPlace}
 use Rattle.aero_error.specs.Checks.{required, dimension, unless}
-use Rattle.aero_error.specs.CheckLaws.{both-passed, unless-passed, up-each, up-all}
+use Rattle.aero_error.specs.CheckLaws.{both-passed, unless-passed, up-none, up-each, up-all}
 use Rattle.drag.specs.Friction.{machChecked, flowChecked}
 use Rattle.sheet_data.specs.declared.Settings.{Settings}
 use Rattle.sheet_data.specs.declared.Part.{Part}
@@ -23,6 +25,7 @@ use Rattle.sheet_data.specs.Layout.{most-parts, most-columns}
 use Rattle.sheet_data.specs.Contents.{Contents, no-part, machAt, reynoldsAt}
 use Rattle.sheet_data.specs.Tests.{bodyTest, columnsTest, settingsTest, nozzleTest, partTest, partsTest, sheetTest}
 use Rattle.drag_sheet.specs.Calls.{Call, replace, insert, remove, setColumn, ignite, burnout, withColumn, applied, argumentsTest}
+use Rattle.drag_sheet.specs.Model.{openedModel, modelDecision, moved, modelAfter}
 use Rattle.drag_sheet.proofs.Answers.{bounds}
 use Rattle.drag_sheet.proofs.CallLaws.{parts-few}
 
@@ -126,7 +129,7 @@ settings-kept burnout c cells e h = h
 
 -- ---- the nozzle diameter
 
-zero-passes : nozzleTest 0·0 ≡ Passed
+pub zero-passes : nozzleTest 0·0 ≡ Passed
 unfolding between ofBits lt le eq
 zero-passes = refl
 
@@ -149,3 +152,21 @@ tested-after call c cells t e =
     let few = parts-few call c (bounds call (c .settings) (length (c .parts)) e) (ltb-false most-parts _ (unless-passed _ DesignFull (b .first))) in
     rw (settings-kept call c cells e (a .first), nozzle-kept call c e (n .first), le-ltb most-parts (length (applied call c .parts)) few)
     (all-parts (applied call c .parts) (parts-kept call c e (each-part (c .parts) (b .second))))
+
+-- ---- an open, and a list of calls
+
+pub tested-open : (s : Settings) (cells : ℕ) → settingsTest s cells ≡ Passed → Tested (openedModel s) cells
+unfolding sheetTest partsTest
+tested-open s cells h = rw (h, zero-passes) (up-none _)
+
+-- after every list the model passes the tests of a sheet given
+pub tested-through : (cells : ℕ) (calls : List Call) (m : Contents) → Tested m cells → Tested (modelAfter cells calls m) cells
+unfolding modelAfter
+tested-through cells [] m t = t
+tested-through cells (call ∷ calls) m t = tested-through cells calls (moved cells call m) (by (modelDecision cells call m) refl)
+  where
+    by : (d : Check) → modelDecision cells call m ≡ d → Tested (moved cells call m) cells
+    by (Failed e) p = rw p t
+    by Passed p =
+        let a = both-passed (sheetTest m cells (length (m .parts))) _ p in
+        rw p (tested-after call m cells t (both-passed (argumentsTest call (m .settings) (length (m .parts))) _ (a .second) .first))

@@ -7,4 +7,4 @@ returns : tie.Need-returns
 returns c = cc
 
 pub sheet-of-spec : {M : Type 1} → statement M
-sheet-of-spec = tie.close (tie.spec (λ c κs. search needs) (λ c κs. search needs) (λ c. search needs) returns)
+sheet-of-spec = tie.close (tie.spec (λ c κs. search needs) (λ c κs. search needs) (λ c. search needs) (λ c. search needs) (λ c κs. search needs) returns)
