@@ -165,6 +165,23 @@ impl Arguments {
         }
     }
 
+    /// A nozzle diameter: the last part's d, a neighbour of it, below it or above it, or any;
+    /// outside its interval one time in `bad`.
+    pub fn a_nozzle(&mut self, d: f64, bad: u64) -> f64 {
+        if self.one_in(bad) {
+            return self.outside(0.0, 100.0);
+        }
+        let near = match self.below(8) {
+            0 => d,
+            1 => d.next_down(),
+            2 => d.next_up(),
+            3 | 4 => self.random.between(0.0, d),
+            5 => self.random.between(d, 100.0),
+            _ => self.house(0.0, 100.0, 1.0, u64::MAX),
+        };
+        near.clamp(-0.0, 100.0)
+    }
+
     /// A place up to `count`, one past it sometimes, and sometimes far away.
     pub fn a_place(&mut self, count: usize) -> usize {
         match self.below(16) {

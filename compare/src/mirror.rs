@@ -8,7 +8,7 @@
 use std::num::FpCategory;
 
 use cobalnis::words::{
-    PartWords, SheetWords, FIRST_PART, MACHS_AT, PARTS_AT, PART_WORDS, REYNOLDS_AT,
+    PartWords, SheetWords, FIRST_PART, MACHS_AT, NOZZLE_AT, PARTS_AT, PART_WORDS, REYNOLDS_AT,
 };
 use cobalnis::Formula;
 
@@ -222,6 +222,7 @@ fn put_settings(settings: &Settings, words: &mut SheetWords) {
 
 fn put_sheet(sheet: &Sheet, words: &mut SheetWords) {
     put_settings(&sheet.settings, words);
+    words[NOZZLE_AT] = answer_bits(sheet.nozzle_diameter);
     words[PARTS_AT] = sheet.design.count as u64;
     let places = words[FIRST_PART..].chunks_exact_mut(PART_WORDS);
     for (place, part) in places.zip(&sheet.design.parts) {
@@ -240,6 +241,7 @@ fn sheet_of(words: &SheetWords) -> Result<Sheet, Answer> {
     }
     Ok(Sheet {
         settings: settings_of(words),
+        nozzle_diameter: f64::from_bits(words[NOZZLE_AT]),
         design: Design {
             count: words[PARTS_AT] as usize,
             parts,
@@ -315,6 +317,20 @@ pub fn set_column(
     let new = Column { mach, reynolds };
     match sheet_of(words) {
         Ok(sheet) => put_back(model::set_column(&sheet, column, new, cells), words),
+        Err(answer) => pair(answer),
+    }
+}
+
+pub fn ignite(words: &mut SheetWords, nozzle_diameter: f64, cells: &mut [f64]) -> (u32, u64) {
+    match sheet_of(words) {
+        Ok(sheet) => put_back(model::ignite(&sheet, nozzle_diameter, cells), words),
+        Err(answer) => pair(answer),
+    }
+}
+
+pub fn burnout(words: &mut SheetWords, cells: &mut [f64]) -> (u32, u64) {
+    match sheet_of(words) {
+        Ok(sheet) => put_back(model::burnout(&sheet, cells), words),
         Err(answer) => pair(answer),
     }
 }

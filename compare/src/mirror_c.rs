@@ -145,6 +145,32 @@ pub unsafe extern "C" fn set_column(
 }
 
 #[inline(never)]
+pub unsafe extern "C" fn ignite(
+    sheet: *mut SheetWords,
+    nozzle_diameter: f64,
+    cells: *mut f64,
+    cell_count: usize,
+    bits: *mut u64,
+) -> u32 {
+    let cells = from_raw_parts_mut(cells, cell_count);
+    let (status, answer) = mirror::ignite(&mut *sheet, nozzle_diameter, cells);
+    *bits = answer;
+    status
+}
+
+#[inline(never)]
+pub unsafe extern "C" fn burnout(
+    sheet: *mut SheetWords,
+    cells: *mut f64,
+    cell_count: usize,
+    bits: *mut u64,
+) -> u32 {
+    let (status, answer) = mirror::burnout(&mut *sheet, from_raw_parts_mut(cells, cell_count));
+    *bits = answer;
+    status
+}
+
+#[inline(never)]
 pub unsafe extern "C" fn read_settings(
     bytes: *const u8,
     n: usize,

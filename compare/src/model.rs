@@ -6,11 +6,13 @@
 //! may be any sheet at all, so the counts stand beside arrays that have room for what a sheet can
 //! have.
 
+mod rows;
+
 use crate::original_fixed::{
-    base_drag_coefficient, boattail_factor, body_friction_form_factor, check_dimension,
-    check_mach_any, skin_friction_coefficient, AeroError, NoseShape, PressureDragCurve,
+    body_friction_form_factor, check_dimension, check_mach_any, AeroError, NoseShape,
 };
 use crate::refusals::Answer;
+use rows::{write, write_all, write_base};
 
 /// "C columns (0 to 32)", "0 to 16 parts".
 pub const COLUMNS: usize = 32;
@@ -56,6 +58,8 @@ pub struct Design {
 #[derive(Debug, Clone, Copy)]
 pub struct Sheet {
     pub settings: Settings,
+    /// "0 when coasting".
+    pub nozzle_diameter: f64,
     pub design: Design,
 }
 
@@ -140,10 +144,17 @@ fn test_part(part: &Part) -> Result<(), Refusal> {
     part.roughness.map_or(Ok(()), |own| house(0.0, own, 1.0))
 }
 
+/// "An n outside [0, 100], NaN too, is refusal 11."
+fn test_nozzle(nozzle_diameter: f64) -> Result<(), Refusal> {
+    house(0.0, nozzle_diameter, 100.0)
+}
+
 /// "Edits and set column first test the sheet given: its settings as at open (10 last), 9 for a
-/// count above 16, 11 for held L, d, w by place", and for a held roughness after w.
+/// count above 16, 11 for held L, d, w by place", and for a held roughness after w; a held n
+/// "right after 10".
 fn test_sheet(sheet: &Sheet, cell_count: usize) -> Result<(), Refusal> {
     test_settings(&sheet.settings, cell_count)?;
+    test_nozzle(sheet.nozzle_diameter)?;
     if sheet.design.count > PLACES {
         return Err(Answer::refused(9));
     }
@@ -153,118 +164,14 @@ fn test_sheet(sheet: &Sheet, cell_count: usize) -> Result<(), Refusal> {
     Ok(())
 }
 
-// ---- the rows
-
-/// A part's cells at these columns, or the refusal that stops it.
-fn part_row(settings: &Settings, f: f64, part: &Part, at: &[Column]) -> Result<Vec<f64>, Refusal> {
-    let big_d = settings.reference_diameter;
-    let (l, d) = (part.length, part.aft_diameter);
-    let mut row = Vec::new();
-    if d > f {
-        let curve = PressureDragCurve::new(part.shape, l / (d - f), part.joint_angle);
-        let curve = curve.map_err(of_error)?;
-        for column in at {
-            let coefficient = curve.coefficient(column.mach).map_err(of_error)?;
-            row.push(coefficient * ((d * d - f * f) / (big_d * big_d)));
-        }
-    } else if d < f {
-        for column in at {
-            let base = base_drag_coefficient(column.mach).map_err(of_error)?;
-            let factor = boattail_factor(l, f, d).map_err(of_error)?;
-            row.push((base * factor) * ((f * f - d * d) / (big_d * big_d)));
-        }
-    } else {
-        row.resize(at.len(), 0.0);
-    }
-    Ok(row)
-}
-
-/// The row of a place in a design, +0 where it has no part.
-fn place_row(
-    settings: &Settings,
-    design: &Design,
-    place: usize,
-    at: &[Column],
-) -> Result<Vec<f64>, Refusal> {
-    if place < design.count {
-        part_row(settings, design.fore(place), &design.parts[place], at)
-    } else {
-        Ok(vec![0.0; at.len()])
-    }
-}
-
-/// "A sum by place from +0 of (skin friction at that part's roughness × form factor) × w." What is
-/// to be multiplied with w at the settings' roughness is worked out once.
-fn friction(settings: &Settings, design: &Design, column: Column) -> f64 {
-    let form = body_friction_form_factor(settings.body_fineness).expect("tested");
-    let at = |roughness: f64| {
-        let skin = skin_friction_coefficient(column.reynolds, roughness, column.mach);
-        skin.expect("tested") * form
-    };
-    let of_settings = at(settings.roughness);
-    let mut sum = 0.0;
-    for part in design.parts() {
-        sum += part.roughness.map_or(of_settings, at) * part.wetted_ratio;
-    }
-    sum
-}
-
-/// Base drag at M × ((last d × last d)/(D×D)), last d being 0 without parts.
-fn base(settings: &Settings, design: &Design, column: Column) -> f64 {
-    let big_d = settings.reference_diameter;
-    let last = design.fore(design.count);
-    let drag = base_drag_coefficient(column.mach).expect("tested");
-    drag * ((last * last) / (big_d * big_d))
-}
-
-/// Writes friction, base and total at a column; the total adds the cells that are there.
-fn finish_column(settings: &Settings, design: &Design, column: usize, cells: &mut [f64]) {
-    let count = settings.count;
-    let at = settings.columns[column];
-    cells[FRICTION * count + column] = friction(settings, design, at);
-    cells[BASE * count + column] = base(settings, design, at);
-    let mut total = 0.0;
-    for row in 0..TOTAL {
-        total += cells[row * count + column];
-    }
-    cells[TOTAL * count + column] = total;
-}
-
-/// Tries these places at these columns, lowest place first, and only then writes them with
-/// friction, base and total.
-fn write(sheet: &Sheet, places: &[usize], columns: &[usize], cells: &mut [f64]) -> Answer {
-    let (settings, design) = (&sheet.settings, &sheet.design);
-    let at: Vec<Column> = columns.iter().map(|&i| settings.columns[i]).collect();
-    let mut rows = Vec::new();
-    for &place in places {
-        match place_row(settings, design, place, &at) {
-            Ok(row) => rows.push(row),
-            Err(refusal) => return refusal,
-        }
-    }
-    for (&place, row) in places.iter().zip(&rows) {
-        for (&column, &value) in columns.iter().zip(row) {
-            cells[place * settings.count + column] = value;
-        }
-    }
-    for &column in columns {
-        finish_column(settings, design, column, cells);
-    }
-    Answer::accepted(0)
-}
-
-fn write_all(sheet: &Sheet, cells: &mut [f64]) -> Answer {
-    let places: Vec<usize> = (0..PLACES).collect();
-    let columns: Vec<usize> = (0..sheet.settings.count).collect();
-    write(sheet, &places, &columns, cells)
-}
-
 // ---- the calls: the answer, and the sheet handed back
 
-/// Open: no parts yet. A refused one hands back its settings and no parts as well.
+/// Open: no parts yet, and it "starts coasting". A refused one hands back its settings and no parts
+/// as well.
 pub fn open(settings: &Settings, cells: &mut [f64]) -> (Answer, Sheet) {
     let sheet = Sheet {
         settings: *settings,
+        nozzle_diameter: 0.0,
         design: Design {
             count: 0,
             parts: [NO_PART; PLACES],
@@ -365,6 +272,28 @@ pub fn set_column(sheet: &Sheet, column: usize, new: Column, cells: &mut [f64]) 
     let places: Vec<usize> = (0..PLACES).collect();
     let answer = write(&after, &places, &[column], cells);
     handed_back(answer, sheet, after)
+}
+
+/// Ignite: "gives n", its own test last; base and total are written.
+pub fn ignite(sheet: &Sheet, nozzle_diameter: f64, cells: &mut [f64]) -> (Answer, Sheet) {
+    let test = || {
+        test_sheet(sheet, cells.len())?;
+        test_nozzle(nozzle_diameter)
+    };
+    if let Err(refusal) = test() {
+        return (refusal, *sheet);
+    }
+    let after = Sheet {
+        nozzle_diameter,
+        ..*sheet
+    };
+    write_base(&after, cells);
+    (Answer::accepted(0), after)
+}
+
+/// Burnout: "puts it back to 0"; base and total are written.
+pub fn burnout(sheet: &Sheet, cells: &mut [f64]) -> (Answer, Sheet) {
+    ignite(sheet, 0.0, cells)
 }
 
 /// A build from nothing: the rows of a sheet into cells of +0, or the refusal of the lowest place.

@@ -1,5 +1,6 @@
-//! The model of the sheet (docs/REFERENCE.md, Sheet): the example of docs/REFERENCE.md, friction by
-//! hand, the refusals of its table, and that edits leave the rows that a build from nothing gives.
+//! The model of the sheet (docs/REFERENCE.md, Sheet): the example of docs/REFERENCE.md, friction and
+//! a burning base by hand, the refusals of its table, and that a list of calls leaves the rows that a
+//! build from nothing gives.
 
 use compare::answer_bits;
 use compare::fixed::{ln, powf};
@@ -183,6 +184,129 @@ fn roughness_refused() {
     assert_eq!(remove(&sheet, 0, &mut cells).0.refusal, 0);
 }
 
+/// A flat face of diameter 0.5 at rest, in a sheet of D = 1.
+fn half_a_face(cells: &mut [f64]) -> Sheet {
+    let (_, none) = open(&settings(&[REST]), cells);
+    let (answer, sheet) = insert(&none, 0, &part(0.5), cells);
+    assert_eq!(answer.refusal, 0);
+    sheet
+}
+
+/// Base and total by hand: the area is 0.25 - n×n, and +0 where the nozzle is as wide as the base or
+/// wider. Zero of either sign is coasting, and so is burnout.
+#[test]
+fn a_nozzle_in_the_base() {
+    let mut cells = [f64::NAN; ROWS];
+    let mut sheet = half_a_face(&mut cells);
+    let coasting = bits(&cells);
+    assert_eq!(sheet.nozzle_diameter.to_bits(), 0);
+    for (n, area) in [
+        (0.25, 0.1875),
+        (0.375, 0.109375),
+        (0.5, 0.0),
+        (0.5f64.next_up(), 0.0),
+        (100.0, 0.0),
+        (-0.0, 0.25),
+        (0.0, 0.25),
+    ] {
+        let (answer, after) = ignite(&sheet, n, &mut cells);
+        assert_eq!((answer.refusal, answer.bits), (0, 0));
+        assert_eq!(after.nozzle_diameter.to_bits(), n.to_bits());
+        let base: f64 = 0.12 * area;
+        assert_eq!(cells[BASE].to_bits(), base.to_bits());
+        assert_eq!(cells[TOTAL].to_bits(), (0.2125 + base).to_bits());
+        assert_eq!(bits(&cells[..BASE]), coasting[..BASE]);
+        let (answer, back) = burnout(&after, &mut cells);
+        assert_eq!((answer.refusal, back.nozzle_diameter.to_bits()), (0, 0));
+        assert_eq!(bits(&cells), coasting);
+        sheet = after;
+    }
+}
+
+/// Both products are rounded before they are subtracted, and their difference before it is divided.
+#[test]
+fn the_area_step_by_step() {
+    let mut cells = [0.0; ROWS];
+    let given = Settings {
+        reference_diameter: 0.6,
+        ..settings(&[REST])
+    };
+    let (_, sheet) = open(&given, &mut cells);
+    let (_, sheet) = insert(&sheet, 0, &part(0.5), &mut cells);
+    ignite(&sheet, 0.3, &mut cells);
+    let base = cells[BASE];
+    assert_eq!(base, 0.12 * ((0.5 * 0.5 - 0.3 * 0.3) / (0.6 * 0.6)));
+    assert_ne!(base, (0.12 * (0.5 * 0.5 - 0.3 * 0.3)) / (0.6 * 0.6));
+    assert_ne!(base, 0.12 * ((0.5 - 0.3) * (0.5 + 0.3) / (0.6 * 0.6)));
+    let apart = (0.5 * 0.5) / (0.6 * 0.6) - (0.3 * 0.3) / (0.6 * 0.6);
+    assert_ne!(base, 0.12 * apart);
+}
+
+/// Base and total are written and no other cell; the total adds the cells that are there.
+#[test]
+fn foreign_cells_stay_while_burning() {
+    let mut cells = [0.0; ROWS + 1];
+    let sheet = half_a_face(&mut cells);
+    for (at, cell) in cells.iter_mut().enumerate() {
+        *cell = at as f64;
+    }
+    let (_, burning) = ignite(&sheet, 0.25, &mut cells);
+    let whole = |at: usize| at as f64;
+    assert!((0..BASE).all(|at| cells[at] == whole(at)));
+    assert_eq!(cells[BASE], 0.12 * 0.1875);
+    assert_eq!(cells[TOTAL], 136.0 + 0.12 * 0.1875);
+    assert_eq!(cells[ROWS], whole(ROWS));
+    burnout(&burning, &mut cells);
+    assert!((0..BASE).all(|at| cells[at] == whole(at)));
+    assert_eq!((cells[BASE], cells[TOTAL]), (0.03, 136.0 + 0.03));
+}
+
+/// What each call but open answers on a sheet, with arguments that are refused as well.
+fn refusals_on(sheet: &Sheet, cells: &mut [f64]) -> [u8; 6] {
+    let before = bits(cells);
+    let answers = [
+        replace(sheet, 99, &part(101.0), cells),
+        insert(sheet, 99, &part(101.0), cells),
+        remove(sheet, 99, cells),
+        set_column(sheet, 99, REST, cells),
+        ignite(sheet, f64::NAN, cells),
+        burnout(sheet, cells),
+    ];
+    for (_, back) in &answers {
+        assert_eq!(
+            back.nozzle_diameter.to_bits(),
+            sheet.nozzle_diameter.to_bits()
+        );
+    }
+    assert_eq!(bits(cells), before);
+    answers.map(|(answer, _)| answer.refusal)
+}
+
+/// 11 for a nozzle outside [0, 100]: a held one right after 10, ignite's own last.
+#[test]
+fn nozzles_refused() {
+    let mut cells = [0.0; ROWS];
+    let (_, mut sheet) = ignite(&half_a_face(&mut cells), 0.25, &mut cells);
+    let before = bits(&cells);
+    sheet.design.count = 17;
+    assert_eq!(refusals_on(&sheet, &mut cells), [9; 6]);
+    sheet.design.count = 1;
+    let tiny = f64::from_bits(1);
+    for bad in [f64::NAN, -1.0, -tiny, 101.0, 100.0f64.next_up()] {
+        let (answer, back) = ignite(&sheet, bad, &mut cells);
+        assert_eq!((answer.refusal, back.nozzle_diameter), (11, 0.25));
+        let mut held = sheet;
+        held.nozzle_diameter = bad;
+        assert_eq!(refusals_on(&held, &mut cells), [11; 6]);
+        held.design.count = 17;
+        assert_eq!(refusals_on(&held, &mut cells), [11; 6]);
+        assert_eq!(refusals_on(&held, &mut cells[1..]), [10; 6]);
+        let (answer, opened) = open(&held.settings, &mut [0.0; ROWS]);
+        assert_eq!((answer.refusal, opened.nozzle_diameter.to_bits()), (0, 0));
+    }
+    assert_eq!(bits(&cells), before);
+}
+
 #[test]
 fn refusals_of_the_table() {
     let number = |columns: usize, cell_count: usize| {
@@ -235,7 +359,7 @@ fn an_ogive(random: &mut Random) -> Part {
 #[test]
 fn edits_leave_the_build() {
     let mut random = Random::new(5);
-    let mut accepted = 0;
+    let (mut accepted, mut burning) = (0, 0);
     for columns in 0..6 {
         let mut cells = vec![f64::NAN; ROWS * columns];
         let given = Settings {
@@ -250,19 +374,23 @@ fn edits_leave_the_build() {
                 mach: random.between(0.0, 3.0),
                 reynolds: random.scaled(1e3, 1e9),
             };
-            let (answer, after) = match random.bits() % 7 {
+            let n = random.pick(&[0.25, 0.5, 1.0, 1.5, 0.75, 2.0, -0.0, 101.0]);
+            let (answer, after) = match random.bits() % 10 {
                 0..=2 => insert(&sheet, place, &new, &mut cells),
                 3..=4 => replace(&sheet, place, &new, &mut cells),
                 5 => remove(&sheet, place, &mut cells),
-                _ => set_column(&sheet, place, column, &mut cells),
+                6 => set_column(&sheet, place, column, &mut cells),
+                7..=8 => ignite(&sheet, n, &mut cells),
+                _ => burnout(&sheet, &mut cells),
             };
             accepted += usize::from(answer.refusal == 0);
             sheet = after;
+            burning += usize::from(sheet.nozzle_diameter > 0.0);
             assert_eq!(
                 bits(&cells),
                 bits(&build(&sheet).expect("an accepted sheet"))
             );
         }
     }
-    assert!(accepted > 500);
+    assert!(accepted > 500 && burning > 500);
 }

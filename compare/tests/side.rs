@@ -1,6 +1,6 @@
 //! A short run of the port against the original: nothing disagrees, what is asked meets every
-//! refusal that a function can give, and at least half of the parts have a roughness of their own.
-//! The long run is the program `side_by_side`.
+//! refusal that a function can give, at least half of the parts have a roughness of their own, and at
+//! least a third of the edits leave a burning sheet. The long run is the program `side_by_side`.
 
 use compare::inputs::Random;
 use compare::side::tally::Row;
@@ -41,6 +41,15 @@ fn mostly_own(row: &Row) {
     assert!(parts <= 2 * own && own < parts, "{}: {own}", row.name());
 }
 
+/// At least a third of a row's accepted calls leave a nozzle, now below the last d, now at it and now
+/// above it.
+fn often_burning(row: &Row) {
+    let burning = row.burning();
+    let all: u64 = burning.iter().sum();
+    assert!(row.seen(0) <= 3 * all, "{}: {all}", row.name());
+    assert!(burning.iter().all(|&n| n > 100), "{}", row.name());
+}
+
 #[test]
 fn all_noses() {
     let random = &mut Random::new(2);
@@ -74,11 +83,16 @@ fn all_calls() {
         let met: &[usize] = match row.name() {
             "sheet: open" => &[0, 1, 7, 10, 11],
             "sheet: insert" | "sheet: replace" => &[0, 1, 2, 3, 5, 7, 8, 9, 10, 11],
+            "sheet: ignite" | "sheet: burnout" => &[0, 1, 5, 7, 9, 10, 11],
             _ => &[0, 1, 5, 7, 8, 9, 10, 11],
         };
         agrees(&row, met);
         if let "sheet: insert" | "sheet: replace" = row.name() {
             mostly_own(&row);
+        }
+        match row.name() {
+            "sheet: open" | "sheet: burnout" => assert_eq!(row.burning(), [0; 3]),
+            _ => often_burning(&row),
         }
     }
 }

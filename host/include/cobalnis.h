@@ -50,7 +50,8 @@ enum {
     COBALNIS_PART_WORDS = 8,
     COBALNIS_MACHS_AT = 4,
     COBALNIS_REYNOLDS_AT = COBALNIS_MACHS_AT + COBALNIS_COLUMNS,
-    COBALNIS_PARTS_AT = COBALNIS_REYNOLDS_AT + COBALNIS_COLUMNS,
+    COBALNIS_NOZZLE_AT = COBALNIS_REYNOLDS_AT + COBALNIS_COLUMNS,
+    COBALNIS_PARTS_AT = COBALNIS_NOZZLE_AT + 1,
     COBALNIS_FIRST_PART = COBALNIS_PARTS_AT + 1,
     COBALNIS_SHEET_WORDS = COBALNIS_FIRST_PART + COBALNIS_PLACES * COBALNIS_PART_WORDS
 };
@@ -204,7 +205,9 @@ uint32_t cobalnis_curve(uint64_t shape, double parameter, double fineness_ratio,
 
 /* The sheet's calls. Accepted: the words are the sheet handed back. Refused:
  * words and cells are untouched, and bits is the value refused. Open looks at
- * the settings' words only and empties the design. */
+ * the settings' words only, empties the design and starts coasting. Ignite
+ * takes the nozzle diameter, from 0 to 100, and burnout puts it back to 0:
+ * these two write the base and the total row and no other. */
 uint32_t cobalnis_open(uint64_t sheet[COBALNIS_SHEET_WORDS], double *cells,
                        size_t cell_count, uint64_t *bits);
 uint32_t cobalnis_insert(uint64_t sheet[COBALNIS_SHEET_WORDS], size_t place,
@@ -218,6 +221,11 @@ uint32_t cobalnis_remove(uint64_t sheet[COBALNIS_SHEET_WORDS], size_t place,
 uint32_t cobalnis_set_column(uint64_t sheet[COBALNIS_SHEET_WORDS], size_t column,
                              double mach, double reynolds, double *cells,
                              size_t cell_count, uint64_t *bits);
+
+uint32_t cobalnis_ignite(uint64_t sheet[COBALNIS_SHEET_WORDS], double nozzle_diameter,
+                         double *cells, size_t cell_count, uint64_t *bits);
+uint32_t cobalnis_burnout(uint64_t sheet[COBALNIS_SHEET_WORDS], double *cells,
+                          size_t cell_count, uint64_t *bits);
 
 /* Reads a card from the byte `at` on; next: where it ends. A settings card
  * fills the words of a sheet's settings. Where no byte is left there is no
@@ -255,6 +263,7 @@ typedef struct {
     uint64_t columns;
     double mach[COBALNIS_COLUMNS];
     double reynolds[COBALNIS_COLUMNS];
+    double nozzle_diameter; /* 0 when coasting */
     uint64_t parts;
     cobalnis_part part[COBALNIS_PLACES];
 } cobalnis_sheet;
@@ -279,6 +288,7 @@ static_assert(sizeof(cobalnis_sheet) == 8 * COBALNIS_SHEET_WORDS, "a sheet's wor
 static_assert(offsetof(cobalnis_sheet, columns) == 8 * 3, "the number of columns");
 static_assert(offsetof(cobalnis_sheet, mach) == 8 * COBALNIS_MACHS_AT, "Machs");
 static_assert(offsetof(cobalnis_sheet, reynolds) == 8 * COBALNIS_REYNOLDS_AT, "Reynolds numbers");
+static_assert(offsetof(cobalnis_sheet, nozzle_diameter) == 8 * COBALNIS_NOZZLE_AT, "the nozzle");
 static_assert(offsetof(cobalnis_sheet, parts) == 8 * COBALNIS_PARTS_AT, "the number of parts");
 static_assert(offsetof(cobalnis_sheet, part) == 8 * COBALNIS_FIRST_PART, "the parts");
 
@@ -634,6 +644,23 @@ static inline uint32_t cobalnis_sheet_set_column(cobalnis_sheet *sheet, size_t c
     uint64_t bits = 0;
     uint32_t status = cobalnis_set_column(cobalnis_words_of(sheet), column, mach, reynolds, cells,
                                           cell_count, &bits);
+    return cobalnis_answer(status, bits, value);
+}
+
+static inline uint32_t cobalnis_sheet_ignite(cobalnis_sheet *sheet, double nozzle_diameter,
+                                             double *cells, size_t cell_count, double *value)
+{
+    uint64_t bits = 0;
+    uint32_t status = cobalnis_ignite(cobalnis_words_of(sheet), nozzle_diameter, cells, cell_count,
+                                      &bits);
+    return cobalnis_answer(status, bits, value);
+}
+
+static inline uint32_t cobalnis_sheet_burnout(cobalnis_sheet *sheet, double *cells,
+                                              size_t cell_count, double *value)
+{
+    uint64_t bits = 0;
+    uint32_t status = cobalnis_burnout(cobalnis_words_of(sheet), cells, cell_count, &bits);
     return cobalnis_answer(status, bits, value);
 }
 

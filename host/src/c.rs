@@ -7,10 +7,12 @@
 
 use crate::{COLUMNS, PLACES};
 
-/// Where the words of a sheet begin: Machs, Reynolds numbers, the number of parts, the parts.
+/// Where the words of a sheet begin: Machs, Reynolds numbers, the nozzle diameter, the number of
+/// parts, the parts.
 pub const MACHS_AT: usize = 4;
 pub const REYNOLDS_AT: usize = MACHS_AT + COLUMNS;
-pub const PARTS_AT: usize = REYNOLDS_AT + COLUMNS;
+pub const NOZZLE_AT: usize = REYNOLDS_AT + COLUMNS;
+pub const PARTS_AT: usize = NOZZLE_AT + 1;
 pub const FIRST_PART: usize = PARTS_AT + 1;
 
 /// Words of a part and of a sheet.
@@ -98,6 +100,19 @@ pub mod raw {
             column: usize,
             mach: f64,
             reynolds: f64,
+            cells: *mut f64,
+            cell_count: usize,
+            bits: *mut u64,
+        ) -> u32;
+        pub fn cobalnis_ignite(
+            sheet: *mut SheetWords,
+            nozzle_diameter: f64,
+            cells: *mut f64,
+            cell_count: usize,
+            bits: *mut u64,
+        ) -> u32;
+        pub fn cobalnis_burnout(
+            sheet: *mut SheetWords,
             cells: *mut f64,
             cell_count: usize,
             bits: *mut u64,
@@ -302,6 +317,24 @@ pub fn set_column(
             &mut bits,
         )
     };
+    (status, bits)
+}
+
+/// A status, and the bits of the value refused.
+pub fn ignite(sheet: &mut SheetWords, nozzle_diameter: f64, cells: &mut [f64]) -> (u32, u64) {
+    let (n, mut bits) = (nozzle_diameter, 0);
+    // SAFETY: as for `open`.
+    let status =
+        unsafe { raw::cobalnis_ignite(sheet, n, cells.as_mut_ptr(), cells.len(), &mut bits) };
+    (status, bits)
+}
+
+/// A status, and the bits of the value refused.
+pub fn burnout(sheet: &mut SheetWords, cells: &mut [f64]) -> (u32, u64) {
+    let mut bits = 0;
+    // SAFETY: as for `open`.
+    let status =
+        unsafe { raw::cobalnis_burnout(sheet, cells.as_mut_ptr(), cells.len(), &mut bits) };
     (status, bits)
 }
 

@@ -8,7 +8,8 @@
 //! - [`formulas`]: one function for each formula, under the original's name.
 //! - [`Curve`]: the pressure drag of a nose against Mach number; [`Nose`]: Stoney's measured ones,
 //!   with [`Nose::walk`] for a whole flight.
-//! - [`Sheet`]: parts and columns, and the drag of each part at each column, kept right by edits.
+//! - [`Sheet`]: parts and columns, and the drag of each part at each column, kept right by edits,
+//!   burning or coasting.
 //! - [`classify`]: which of IEEE 754's five classes any 64 bits are in.
 //! - [`Settings::read`], [`Part::read`], [`print`]: cards.
 //! - [`words`]: the same by numbers and words, as the C interface has them.
@@ -36,10 +37,10 @@ pub use c::raw;
 /// The types above are made of these; a host has them for sheets that it keeps as plain memory.
 pub mod words {
     pub use crate::c::{
-        check_dimension, classify, curve, formula, insert, nose_lookup, nose_point, nose_walk,
-        open, print, read_part, read_settings, remove, replace, set_column, takes_cone_formula,
-        PartWords, SheetWords, FIRST_PART, MACHS_AT, PARTS_AT, PART_WORDS, REYNOLDS_AT,
-        SHEET_WORDS,
+        burnout, check_dimension, classify, curve, formula, ignite, insert, nose_lookup,
+        nose_point, nose_walk, open, print, read_part, read_settings, remove, replace, set_column,
+        takes_cone_formula, PartWords, SheetWords, FIRST_PART, MACHS_AT, NOZZLE_AT, PARTS_AT,
+        PART_WORDS, REYNOLDS_AT, SHEET_WORDS,
     };
     pub use crate::sheet::LONGEST_TEXT;
 }

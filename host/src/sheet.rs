@@ -1,8 +1,8 @@
 //! The sheet, its settings and parts, and cards.
 
 use crate::c::{
-    self, PartWords, SheetWords, FIRST_PART, MACHS_AT, PARTS_AT, PART_WORDS, REYNOLDS_AT,
-    SHEET_WORDS,
+    self, PartWords, SheetWords, FIRST_PART, MACHS_AT, NOZZLE_AT, PARTS_AT, PART_WORDS,
+    REYNOLDS_AT, SHEET_WORDS,
 };
 use crate::{Refusal, Shape};
 
@@ -145,8 +145,8 @@ pub struct Sheet<'cells> {
 }
 
 impl<'cells> Sheet<'cells> {
-    /// Opens a sheet without parts over these cells, of which it needs [`ROWS`] a column; those past
-    /// them are never written.
+    /// Opens a sheet without parts, coasting, over these cells, of which it needs [`ROWS`] a column;
+    /// those past them are never written.
     pub fn open(settings: &Settings, cells: &'cells mut [f64]) -> Result<Self, Refusal> {
         let mut words = settings.words();
         let answer = c::open(&mut words, cells);
@@ -185,8 +185,26 @@ impl<'cells> Sheet<'cells> {
         self.accept(answer)
     }
 
+    /// The powered climb: a nozzle of this diameter, from 0 to 100, fills part of the base, or all
+    /// of it where the last part is no wider. It stays through edits until burnout.
+    pub fn ignite(&mut self, nozzle_diameter: f64) -> Result<(), Refusal> {
+        let answer = c::ignite(&mut self.words, nozzle_diameter, self.cells);
+        self.accept(answer)
+    }
+
+    /// Coasting again: the nozzle diameter is put back to 0.
+    pub fn burnout(&mut self) -> Result<(), Refusal> {
+        let answer = c::burnout(&mut self.words, self.cells);
+        self.accept(answer)
+    }
+
     pub fn settings(&self) -> Settings {
         Settings::of(&self.words)
+    }
+
+    /// 0 when coasting.
+    pub fn nozzle_diameter(&self) -> f64 {
+        f64::from_bits(self.words[NOZZLE_AT])
     }
 
     pub fn column_count(&self) -> usize {
@@ -216,7 +234,7 @@ impl<'cells> Sheet<'cells> {
         self.row(FRICTION)
     }
 
-    /// Drag of the blunt end.
+    /// Drag of the blunt end, less what the nozzle fills of it.
     pub fn base(&self) -> &[f64] {
         self.row(BASE)
     }

@@ -1,5 +1,5 @@
 //! Each function of the wrapper, accepted and refused, with the values of docs/REFERENCE.md,
-//! Values. The sheet, the cards and `print` are in sheets.rs.
+//! Values. The sheet, the cards and `print` are in sheets.rs, burning and coasting in burning.rs.
 
 mod common;
 

@@ -4,7 +4,7 @@
 mod common;
 
 use cobalnis::formulas::skin_friction_coefficient;
-use cobalnis::words::{self, FIRST_PART, PART_WORDS};
+use cobalnis::words::{self, FIRST_PART, PARTS_AT, PART_WORDS};
 use cobalnis::{print, Column, Part, Quantity, Settings, Shape, Sheet, COLUMNS, PLACES, ROWS};
 
 use common::{domain, refusal, stream, INFINITY, NAN};
@@ -46,7 +46,7 @@ fn the_papers_sheet() {
     assert_eq!(sheet.total()[0].to_bits(), 0x3fef_0a3d_70a3_d70a);
     assert_eq!(sheet.cells()[ROWS], -3.0);
     assert_eq!(sheet.settings(), settings());
-    assert_eq!(sheet.words()[68], 1);
+    assert_eq!(sheet.words()[PARTS_AT], 1);
 }
 
 #[test]

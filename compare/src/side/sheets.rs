@@ -2,8 +2,8 @@
 //! on purpose, too few cells, foreign cells.
 
 use cobalnis::words::{
-    self, PartWords, SheetWords, FIRST_PART, MACHS_AT, PARTS_AT, PART_WORDS, REYNOLDS_AT,
-    SHEET_WORDS,
+    self, PartWords, SheetWords, FIRST_PART, MACHS_AT, NOZZLE_AT, PARTS_AT, PART_WORDS,
+    REYNOLDS_AT, SHEET_WORDS,
 };
 
 use super::tally::Row;
@@ -16,7 +16,15 @@ use crate::{answer_bits, model::Part};
 const BUFFER: usize = ROWS * COLUMNS + 8;
 
 /// The calls, as a row counts them.
-const CALLS: [&str; 5] = ["open", "insert", "replace", "remove", "set column"];
+const CALLS: [&str; 7] = [
+    "open",
+    "insert",
+    "replace",
+    "remove",
+    "set column",
+    "ignite",
+    "burnout",
+];
 
 /// A call with its arguments.
 #[derive(Debug, Clone, Copy)]
@@ -26,6 +34,8 @@ enum Call {
     Replace(usize, PartWords),
     Remove(usize),
     SetColumn(usize, f64, f64),
+    Ignite(f64),
+    Burnout,
 }
 
 impl Call {
@@ -36,6 +46,8 @@ impl Call {
             Call::Replace(..) => 2,
             Call::Remove(..) => 3,
             Call::SetColumn(..) => 4,
+            Call::Ignite(..) => 5,
+            Call::Burnout => 6,
         }
     }
 
@@ -48,6 +60,8 @@ impl Call {
             Call::SetColumn(at, mach, reynolds) => {
                 words::set_column(sheet, at, mach, reynolds, cells)
             }
+            Call::Ignite(n) => words::ignite(sheet, n, cells),
+            Call::Burnout => words::burnout(sheet, cells),
         }
     }
 
@@ -60,6 +74,8 @@ impl Call {
             Call::SetColumn(at, mach, reynolds) => {
                 mirror::set_column(sheet, at, mach, reynolds, cells)
             }
+            Call::Ignite(n) => mirror::ignite(sheet, n, cells),
+            Call::Burnout => mirror::burnout(sheet, cells),
         }
     }
 }
@@ -101,8 +117,16 @@ fn said(words: &SheetWords) -> Vec<u64> {
     let parts = (words[PARTS_AT] as usize).min(PLACES);
     let mut list = words[..MACHS_AT + columns].to_vec();
     list.extend(&words[REYNOLDS_AT..REYNOLDS_AT + columns]);
-    list.extend(&words[PARTS_AT..FIRST_PART + PART_WORDS * parts]);
+    list.extend(&words[NOZZLE_AT..FIRST_PART + PART_WORDS * parts]);
     list
+}
+
+/// The last part's aft diameter, 0 without parts.
+fn last_d(words: &SheetWords) -> f64 {
+    match (words[PARTS_AT] as usize).min(PLACES) {
+        0 => 0.0,
+        parts => f64::from_bits(words[FIRST_PART + PART_WORDS * (parts - 1) + 3]),
+    }
 }
 
 /// Whether all cells are equal, a NaN being equal to any NaN.
@@ -140,10 +164,18 @@ impl Play {
         if let Call::Insert(_, part) | Call::Replace(_, part) = call {
             row.note_part(&part);
         }
+        if model.0 == 0 {
+            row.note_nozzle(f64::from_bits(theirs[NOZZLE_AT]), last_d(&theirs));
+        }
         if !agree {
             // Go on from what the model has, so that one slip isn't told twice.
             (self.sheet, self.cells) = (theirs, their_cells);
         }
+    }
+
+    /// A nozzle diameter around the last d.
+    fn nozzle(&mut self, bad: u64) -> f64 {
+        self.args.a_nozzle(last_d(&self.sheet), bad)
     }
 
     fn columns(&self) -> usize {
@@ -180,7 +212,8 @@ impl Play {
         }
     }
 
-    /// Settings of few columns mostly, and the open call, which is refused now and then.
+    /// Settings of few columns mostly, and the open call, which is refused now and then. It finds a
+    /// nozzle of the list before, or any.
     fn open(&mut self) {
         let columns = match self.args.below(12) {
             0 => self.args.below(COLUMNS + 1),
@@ -213,6 +246,9 @@ impl Play {
             self.sheet[MACHS_AT + at] = column.mach.to_bits();
             self.sheet[REYNOLDS_AT + at] = column.reynolds.to_bits();
         }
+        if self.args.one_in(8) {
+            self.sheet[NOZZLE_AT] = self.args.random.bits();
+        }
         let cell_count = self.cell_count();
         self.call(Call::Open, cell_count);
     }
@@ -243,7 +279,7 @@ impl Play {
 
     fn a_call(&mut self) -> Call {
         let (parts, columns) = (self.parts(), self.columns());
-        match self.args.below(16) {
+        match self.args.below(24) {
             0..=4 => {
                 let place = match self.args.below(6) {
                     0 => self.args.a_place(parts),
@@ -254,6 +290,8 @@ impl Play {
             5..=8 => Call::Replace(self.args.a_place(parts), self.part()),
             9..=11 => Call::Remove(self.args.a_place(parts)),
             12 if self.args.one_in(12) => Call::Open,
+            16..=20 => Call::Ignite(self.nozzle(30)),
+            21..=23 => Call::Burnout,
             _ => {
                 let column = self.args.a_column(30);
                 let at = self.args.a_place(columns);
@@ -268,7 +306,7 @@ impl Play {
             let any = self.args.random.bits();
             let columns = self.columns().max(1);
             let place = FIRST_PART + PART_WORDS * self.args.below(self.parts().max(1));
-            match self.args.below(12) {
+            match self.args.below(14) {
                 0 => self.sheet[self.args.below(SHEET_WORDS)] = any,
                 1 => self.sheet[3] = [33, 32, any, 1 << 63, u64::MAX][self.args.below(5)],
                 2 => self.sheet[PARTS_AT] = [17, 16, any, 1 << 63, u64::MAX][self.args.below(5)],
@@ -292,6 +330,8 @@ impl Play {
                     self.sheet[place + 7] = own.to_bits();
                 }
                 8 => self.sheet[place + 6] = [0, 1, any, self.not_one()][self.args.below(4)],
+                // A nozzle outside its interval, or one that no call gave.
+                9 | 10 => self.sheet[NOZZLE_AT] = self.nozzle(2).to_bits(),
                 _ => {
                     let part = words_of(&self.args.a_part(3, 3));
                     self.sheet[place..place + PART_WORDS].copy_from_slice(&part);

@@ -21,6 +21,8 @@ pub struct Row {
     /// Parts among the inputs, and those with a roughness of their own.
     parts: u64,
     own: u64,
+    /// Accepted calls after which a nozzle burns that is narrower than the base, as wide, wider.
+    burning: [u64; 3],
     pub disagreements: u64,
     shown: Vec<String>,
     plain: Option<Plain>,
@@ -67,6 +69,18 @@ impl Row {
     pub fn note_part(&mut self, words: &PartWords) {
         self.parts += 1;
         self.own += u64::from(words[6] != 0);
+    }
+
+    /// The nozzle and the last d after an accepted call.
+    pub fn note_nozzle(&mut self, n: f64, d: f64) {
+        if n > 0.0 {
+            self.burning[usize::from(n >= d) + usize::from(n > d)] += 1;
+        }
+    }
+
+    /// After how many accepted calls a nozzle burns that is narrower than the base, as wide, wider.
+    pub fn burning(&self) -> [u64; 3] {
+        self.burning
     }
 
     /// How many parts were among the inputs, and how many had a roughness of their own.
@@ -180,6 +194,15 @@ pub fn print_own(rows: &[Row]) {
             name, parts, own, ..
         } = row;
         println!("{name}: {own} of {parts} parts with a roughness of their own");
+    }
+}
+
+/// After how many accepted calls of the sheet a nozzle burnt.
+pub fn print_burning(rows: &[Row]) {
+    for row in rows.iter().filter(|row| row.burning != [0; 3]) {
+        let [below, at, above] = row.burning;
+        let (name, all) = (&row.name, row.seen(0));
+        println!("{name}: of {all} accepted {below} with n below d, {at} at d, {above} above d");
     }
 }
 

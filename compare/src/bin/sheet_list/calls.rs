@@ -1,8 +1,9 @@
 //! A line each: the changes by hand and the calls.
 
-use cobalnis::words::{FIRST_PART, MACHS_AT, PARTS_AT, PART_WORDS, REYNOLDS_AT};
+use cobalnis::words::{FIRST_PART, MACHS_AT, NOZZLE_AT, PARTS_AT, PART_WORDS, REYNOLDS_AT};
 use compare::mirror::part_words;
-use compare::model::{insert, open, remove, replace, set_column, Column, Part, Sheet};
+use compare::model::{burnout, ignite, insert, open, remove, replace, set_column};
+use compare::model::{Column, Part, Sheet};
 use compare::refusals::Answer;
 
 use crate::Play;
@@ -74,6 +75,11 @@ impl Play {
         }
     }
 
+    pub fn nozzle(&mut self, n: f64) {
+        self.sheet.nozzle_diameter = n;
+        self.words(NOZZLE_AT, &[n.to_bits()]);
+    }
+
     pub fn parts(&mut self, count: usize) {
         self.sheet.design.count = count;
         self.words(PARTS_AT, &[count as u64]);
@@ -104,6 +110,7 @@ impl Play {
     fn handed(&mut self, tag: char, args: &[u64], (answer, sheet): (Answer, Sheet)) -> Answer {
         if answer.refusal == 0 {
             self.sheet = sheet;
+            self.burning += usize::from(sheet.nozzle_diameter > 0.0);
         }
         self.calls += 1;
         self.line(tag, args, answer);
@@ -153,5 +160,15 @@ impl Play {
         let back = set_column(&self.sheet, at, column, &mut self.cells[..self.cell_count]);
         let args = [at as u64, column.mach.to_bits(), column.reynolds.to_bits()];
         self.handed('t', &args, back)
+    }
+
+    pub fn ignite(&mut self, n: f64) -> Answer {
+        let back = ignite(&self.sheet, n, &mut self.cells[..self.cell_count]);
+        self.handed('n', &[n.to_bits()], back)
+    }
+
+    pub fn burnout(&mut self) -> Answer {
+        let back = burnout(&self.sheet, &mut self.cells[..self.cell_count]);
+        self.handed('b', &[], back)
     }
 }

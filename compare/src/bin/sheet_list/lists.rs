@@ -47,7 +47,7 @@ impl Play {
     fn any_call(&mut self, bad: u64, odd: u64) {
         let parts = self.sheet.design.count;
         let columns = self.sheet.settings.count;
-        match self.args.below(12) {
+        match self.args.below(16) {
             0..=3 => {
                 let place = match self.args.below(6) {
                     0 => self.args.a_place(parts),
@@ -68,12 +68,27 @@ impl Play {
             9 if self.args.one_in(12) => {
                 self.open();
             }
+            12..=14 => {
+                let n = self.a_nozzle(bad);
+                self.ignite(n);
+            }
+            15 => {
+                self.burnout();
+            }
             _ => {
                 let at = self.args.a_place(columns);
                 let column = self.args.a_column(bad);
                 self.set_column(at, column);
             }
         }
+    }
+
+    /// A nozzle around the last part's d, or around 0 without parts.
+    fn a_nozzle(&mut self, bad: u64) -> f64 {
+        let design = &self.sheet.design;
+        let last = design.parts[..design.count.min(PLACES)].last();
+        self.args
+            .a_nozzle(last.map_or(0.0, |part| part.aft_diameter), bad)
     }
 
     /// Each kind of call once, on a sheet that was changed by hand.
@@ -88,9 +103,13 @@ impl Play {
         self.remove(place);
         let column = self.args.a_column(8);
         self.set_column(0, column);
+        let n = self.a_nozzle(8);
+        self.ignite(n);
+        self.burnout();
     }
 
-    /// A sheet given that no call would hand back: settings, counts and held parts out of range.
+    /// A sheet given that no call would hand back: settings, counts, nozzle and held parts out of
+    /// range.
     fn broken_sheet(&mut self) {
         let whole = self.sheet;
         let cell_count = self.cell_count;
@@ -107,7 +126,7 @@ impl Play {
     /// One thing of the sheet out of range.
     fn break_one(&mut self, whole: &Sheet) {
         let count = whole.settings.count;
-        match self.args.below(7) {
+        match self.args.below(9) {
             0 => {
                 let d = self.args.house(0.001, 100.0, 1.0, 2);
                 let roughness = self.args.house(0.0, 1.0, 0.01, 2);
@@ -125,7 +144,11 @@ impl Play {
                 self.lend(short);
             }
             3 => self.many_parts(whole.design.count),
-            4 => {
+            4 | 5 => {
+                let n = self.a_nozzle(2);
+                self.nozzle(n);
+            }
+            6 => {
                 // A held part's roughness alone.
                 let place = self.args.below(whole.design.count.max(1));
                 let roughness = Some(self.args.house(0.0, 1.0, 1e-3, 1));
@@ -160,6 +183,9 @@ impl Play {
             if !(same && is.reynolds.to_bits() == was.reynolds.to_bits()) {
                 self.column(at, was);
             }
+        }
+        if self.sheet.nozzle_diameter.to_bits() != whole.nozzle_diameter.to_bits() {
+            self.nozzle(whole.nozzle_diameter);
         }
         for place in 0..whole.design.count {
             let is = part_words(&self.sheet.design.parts[place], f64::to_bits);

@@ -16,11 +16,12 @@
 //!
 //! The state's number h is made of 64-bit words x, one after the other, from h = 0xcbf29ce484222325:
 //! h is h xor x, turned left by 23 bits, times 0x100000001b3 without carry out of 64 bits. The
-//! words: D, roughness, B, the count of columns, M and R of each column (32 at most), the count of
-//! parts, each part's eight words (16 parts at most), and all cells of the buffer. Every NaN is
-//! 7ff8000000000000, and a shape without a parameter has zeros for it, as a part without a roughness
-//! of its own has.
+//! words: D, roughness, B, the count of columns, M and R of each column (32 at most), the nozzle
+//! diameter, the count of parts, each part's eight words (16 parts at most), and all cells of the
+//! buffer. Every NaN is 7ff8000000000000, and a shape without a parameter has zeros for it, as a part
+//! without a roughness of its own has.
 
+mod burning;
 mod calls;
 mod cases;
 mod lists;
@@ -57,6 +58,8 @@ struct Play {
     /// Parts given and held, and those with a roughness of their own.
     parts: usize,
     own: usize,
+    /// Accepted calls that left a nozzle above 0.
+    burning: usize,
 }
 
 impl Play {
@@ -75,6 +78,7 @@ impl Play {
             h = mixed(h, answer_bits(column.mach));
             h = mixed(h, answer_bits(column.reynolds));
         }
+        h = mixed(h, answer_bits(self.sheet.nozzle_diameter));
         let design = &self.sheet.design;
         h = mixed(h, design.count as u64);
         for part in &design.parts[..design.count.min(PLACES)] {
@@ -110,6 +114,7 @@ fn main() {
                     reynolds: 0.0,
                 }; COLUMNS],
             },
+            nozzle_diameter: 0.0,
             design: Design {
                 count: 0,
                 parts: [NO_PART; PLACES],
@@ -121,6 +126,7 @@ fn main() {
         calls: 0,
         parts: 0,
         own: 0,
+        burning: 0,
     };
     // The sheet of docs/REFERENCE.md, Example.
     play.settings(1.0, 0.0, 1.0, 1);
@@ -136,6 +142,7 @@ fn main() {
     play.opens();
     play.later_widening();
     play.roughnesses();
+    play.burning();
     for columns in 0..=COLUMNS {
         let calls = if columns < 8 { 60 } else { 36 };
         play.list(columns, calls, 40, 40);
@@ -154,7 +161,10 @@ fn main() {
         play.full(columns);
     }
     let (own, parts) = (play.own, play.parts);
-    eprintln!("{} calls", play.calls);
+    eprintln!(
+        "{} calls, {} left a burning sheet",
+        play.calls, play.burning
+    );
     eprintln!("{own} of {parts} parts with a roughness of their own");
     play.out.flush().expect("standard output");
 }

@@ -7,6 +7,7 @@
 //! shortest turn of each counts. The figure is the ratio, port over original; the nanoseconds are
 //! this machine's. Both sides' answers are added up and must be the same, all accepted.
 
+mod burning;
 mod cards;
 mod curves;
 mod formulas;
@@ -16,6 +17,7 @@ mod walks;
 
 use compare::inputs::Random;
 
+use burning::ignites_and_burnouts;
 use cards::cards;
 use curves::curves;
 use formulas::formulas;
@@ -37,7 +39,8 @@ const NOTES: &str = "
   roughness once, and for each roughness of a part's own once more.
 - Parts have no roughness of their own where nothing is said of one. Rows with and without differ
   in those numbers alone.
-- Whole build and remove start from a copied sheet (1576 bytes) on either side.
+- Whole build, remove and burnout start from a copied sheet (1584 bytes) on either side.
+- Sheets are coasting where nothing is said of a nozzle.
 - The original has no walk; there the other side tests as the port does, asks the original's
   lookup for each Mach, and counts by a plain walk.";
 
@@ -58,6 +61,7 @@ fn main() {
     );
     set_columns(&mut random);
     removes(&mut random);
+    ignites_and_burnouts();
     cards(&mut random);
     walks(&mut random);
     println!("{NOTES}");

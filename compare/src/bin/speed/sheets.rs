@@ -70,15 +70,15 @@ type Edit = unsafe extern "C" fn(
     usize,
     *mut u64,
 ) -> u32;
-type Open = unsafe extern "C" fn(*mut SheetWords, *mut f64, usize, *mut u64) -> u32;
+pub type Open = unsafe extern "C" fn(*mut SheetWords, *mut f64, usize, *mut u64) -> u32;
 type Remove = unsafe extern "C" fn(*mut SheetWords, usize, *mut f64, usize, *mut u64) -> u32;
 type SetColumn =
     unsafe extern "C" fn(*mut SheetWords, usize, f64, f64, *mut f64, usize, *mut u64) -> u32;
 
-const CELLS: usize = ROWS * COLUMNS;
+pub const CELLS: usize = ROWS * COLUMNS;
 
 /// The last column's total and a part's cell stand for all cells.
-fn sum_of(cells: &[f64]) -> u64 {
+pub fn sum_of(cells: &[f64]) -> u64 {
     cells[CELLS - 1].to_bits() ^ cells[COLUMNS + 3].to_bits()
 }
 
