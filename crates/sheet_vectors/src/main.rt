@@ -8,6 +8,8 @@
 //     i insert, r replace         place, the part's first six words
 //     m remove                    place
 //     t set column                column, Mach, Reynolds number
+//     n ignite                    nozzle diameter
+//     b burnout                   no arguments
 //     w words of the sheet        the first one's place, how many, up to six words
 //     k roughness of the parts    flag and bits, for the i and r lines that follow; 0 and 0 before the first one
 //     l cells lent                how many
@@ -18,10 +20,13 @@
 //     cargo run --release --offline --bin sheet_list > ../crates/sheet_vectors/stdin
 use cobalnis::FIRST_PART;
 use cobalnis::MACHS_AT;
+use cobalnis::NOZZLE_AT;
 use cobalnis::PART_WORDS;
+use cobalnis::PARTS_AT;
 use cobalnis::REYNOLDS_AT;
-use cobalnis::SETTINGS_WORDS;
 use cobalnis::SHEET_WORDS;
+use cobalnis::cobalnis_burnout;
+use cobalnis::cobalnis_ignite;
 use cobalnis::cobalnis_insert;
 use cobalnis::cobalnis_open;
 use cobalnis::cobalnis_remove;
@@ -69,7 +74,7 @@ fn with_column(h: u64, words: &[u64; SHEET_WORDS], column: usize) -> u64 {
 
 // The words of a part, where the sheet has so many: a shape's number, five floats, a flag and a float.
 fn with_part(h: u64, words: &[u64; SHEET_WORDS], place: usize) -> u64 {
-    if PARTS <= place || words[SETTINGS_WORDS] <= place as u64 {
+    if PARTS <= place || words[PARTS_AT] <= place as u64 {
         return h;
     }
     let at = FIRST_PART + PART_WORDS * place;
@@ -109,8 +114,9 @@ fn number_of(words: &[u64; SHEET_WORDS], cells: &[f64]) -> u64 {
     let h = with_float(0xcbf2_9ce4_8422_2325, words[0]);
     let h = with_float(with_float(h, words[1]), words[2]);
     let h = with_first(mixed(h, words[3]), words, false, COLUMNS);
+    let h = with_float(h, words[NOZZLE_AT]);
     with_cells(
-        with_first(mixed(h, words[SETTINGS_WORDS]), words, true, PARTS),
+        with_first(mixed(h, words[PARTS_AT]), words, true, PARTS),
         cells,
     )
 }
@@ -119,7 +125,7 @@ fn number_of(words: &[u64; SHEET_WORDS], cells: &[f64]) -> u64 {
 
 fn is_call(tag: u8) -> bool {
     match tag {
-        b'o' | b'i' | b'r' | b'm' | b't' => true,
+        b'o' | b'i' | b'r' | b'm' | b't' | b'n' | b'b' => true,
         _ => false,
     }
 }
@@ -151,13 +157,16 @@ fn called(
     cells: &mut [f64],
     bits: &mut u64,
 ) -> u32 {
-    let at = word_at(line, 0) as usize;
+    let first = word_at(line, 0);
+    let at = first as usize;
     let part = part_at(line, roughness);
     match tag_of(line) {
         b'o' => cobalnis_open(words, cells, bits),
         b'i' => cobalnis_insert(words, at, &part, cells, bits),
         b'r' => cobalnis_replace(words, at, &part, cells, bits),
         b'm' => cobalnis_remove(words, at, cells, bits),
+        b'n' => cobalnis_ignite(words, from_bits(first), cells, bits),
+        b'b' => cobalnis_burnout(words, cells, bits),
         _ => {
             let mach = from_bits(word_at(line, 1));
             let reynolds = from_bits(word_at(line, 2));
@@ -250,6 +259,8 @@ fn kind_of(tag: u8) -> u64 {
         b'r' => 2,
         b'm' => 3,
         b't' => 4,
+        b'n' => 5,
+        b'b' => 6,
         _ => 31,
     }
 }
@@ -347,4 +358,6 @@ fn main() {
     counts.write(b"insert", 1);
     counts.write(b"remove", 3);
     counts.write(b"set column", 4);
+    counts.write(b"ignite", 5);
+    counts.write(b"burnout", 6);
 }
