@@ -27,7 +27,7 @@ use Rattle.drag_sheet.specs.Writing.{whole, overwritten}
 use Rattle.drag_sheet.specs.Calls.{decision}
 use Rattle.drag_sheet.proofs.RowKinds.{row-wide}
 use Rattle.drag_sheet.proofs.MadeRows.{base-made}
-use Rattle.drag_sheet.proofs.Nozzle.{coasting-base}
+use Rattle.drag_sheet.proofs.BaseArea.{coasting-base}
 use Rattle.cards.specs.declared.PartRead.{PartRead}
 use Rattle.cards.specs.declared.PartRead.the-variants.{Read, Refused as NoPart}
 use Rattle.cards.specs.Cards.{partAt}

@@ -20,7 +20,7 @@ use Rattle.drag_sheet.specs.Build.{rowTest, rowOf}
 use Rattle.drag_sheet.specs.Writing.{chosen, rows, totalled, overwritten}
 use Rattle.drag_sheet.specs.declared.Answer.{Answer}
 use Rattle.drag_sheet.specs.Calls.{Call, replace, insert, remove, setColumn, insertAt, removeAt, withColumn, withNozzle, rowTestWhere, replacedRows, nozzleRows, bodyRows, tries, scope, after, callTest, sheetWith, answered, Called}
-use Rattle.drag_sheet.specs.Edits.{replacedIn, Changed, nozzledAs, NozzlePut}
+use Rattle.drag_sheet.specs.Edits.{replacedIn, Changed, sheetWithNozzle, NozzlePut}
 use Rattle.drag_sheet.proofs.Answers.{called, contents-with}
 use Rattle.drag_sheet.proofs.Slots.{inserted-long, removed-long}
 
@@ -82,7 +82,7 @@ module _ (sheet : Sheet) (slots : length (sheet .design .parts) ≡ most-parts) 
   pub column-sheet : (k : ℕ) (M R : Float) → record { settings = withColumn (sheet .settings) k M R; design = sheet .design; «nozzle_diameter» = sheet .«nozzle_diameter» } ≡ sheetWith (after (setColumn k M R) sheet) sheet
   column-sheet k M R = rw parts-long (ap (λ ps. record { settings = withColumn (sheet .settings) k M R; design = record { count = d .count; parts = ps }; «nozzle_diameter» = sheet .«nozzle_diameter» }) split)
 
-  pub nozzle-sheet : (n : Float) → nozzledAs n sheet ≡ sheetWith (withNozzle n (contentsOf sheet)) sheet
+  pub nozzle-sheet : (n : Float) → sheetWithNozzle n sheet ≡ sheetWith (withNozzle n (contentsOf sheet)) sheet
   nozzle-sheet n = rw parts-long (ap (λ ps. record { settings = sheet .settings; design = record { count = d .count; parts = ps }; «nozzle_diameter» = n }) split)
 
 -- ---- a replaced part's rows written: the contract
@@ -112,5 +112,5 @@ called-nozzle call n sheet xs test r ys slots t fits none left only f = by test 
     by (Failed e) p = let q = sym t ∙ p in record { answer = f .answer ∙ rw (p, q); left = f .cells ∙ rw (p, q) }
     by Passed p =
         let q = sym t ∙ p in
-        let same : nozzledAs n sheet ≡ sheetWith (after call sheet) sheet = nozzle-sheet sheet slots (fits p .parts) n ∙ ap (λ (c : Contents). sheetWith c sheet) (sym left) in
-        called call sheet xs r ys Passed (nozzledAs n sheet) q (sym none) same (f .answer ∙ rw p) (f .cells ∙ rw (p, only, left))
+        let same : sheetWithNozzle n sheet ≡ sheetWith (after call sheet) sheet = nozzle-sheet sheet slots (fits p .parts) n ∙ ap (λ (c : Contents). sheetWith c sheet) (sym left) in
+        called call sheet xs r ys Passed (sheetWithNozzle n sheet) q (sym none) same (f .answer ∙ rw p) (f .cells ∙ rw (p, only, left))

@@ -11,7 +11,6 @@ use lib.ListN.{length, set, length-set}
 use lib.Seq.{getD-set-other}
 use lib.Ieee.{Float}
 use borrow.Author.Tests.{lt-ltb, le-ltb}
-use Rattle.elementary.specs.Constants.{0·0}
 use Rattle.aero_error.specs.declared.Check.the-variants.{Passed}
 use Rattle.aero_error.specs.Checks.{_then_, upTo}
 use Rattle.aero_error.specs.CheckLaws.{both-passed, then-passed, up-each, up-only, up-two, up-same}
@@ -142,7 +141,7 @@ narrow (insert place p) c b ok = refl
 narrow (remove place) c b ok = refl
 narrow (setColumn k M R) c b ok = column-tries c k M R b ok
 narrow (ignite n) c b ok = nozzle-tries n c ok
-narrow burnout c b ok = nozzle-tries 0·0 c ok
+narrow burnout c b ok = nozzle-tries _ c ok
 
 pub scope-inside : (call : Call) (c : Contents) → Bounds call (c .settings) (length (c .parts)) → length (c .parts) ≤ most-parts → Inside (scope call (applied call c)) (c .settings .count)
 scope-inside (replace place p) c b few = rw (length-set (c .parts) place p) (replace-below c place p b few)
@@ -162,4 +161,4 @@ call-holds (insert place p) c xs b few h = whole-holds (applied (insert place p)
 call-holds (remove place) c xs b few h = whole-holds (applied (remove place) c) xs (h .room)
 call-holds (setColumn k M R) c xs b few h = column-holds (applied (setColumn k M R) c) xs (h .room) k c refl h (other-column c k M R)
 call-holds (ignite n) c xs b few h = nozzle-holds n c xs h
-call-holds burnout c xs b few h = nozzle-holds 0·0 c xs h
+call-holds burnout c xs b few h = nozzle-holds _ c xs h

@@ -18,7 +18,8 @@ pub mod Changed
 pub mod Duties
 pub mod CallLaws
 pub mod ListsLaw
+pub mod Nozzle
 pub mod TestsKept
 pub mod OnlyCurves
-pub mod Nozzle
+pub mod BaseArea
 pub mod Places

@@ -26,6 +26,7 @@ use Rattle.sheet_data.specs.Contents.{Contents, no-part, machAt, reynoldsAt}
 use Rattle.sheet_data.specs.Tests.{bodyTest, columnsTest, settingsTest, nozzleTest, partTest, partsTest, sheetTest}
 use Rattle.drag_sheet.specs.Calls.{Call, replace, insert, remove, setColumn, ignite, burnout, withColumn, applied, argumentsTest}
 use Rattle.drag_sheet.specs.Model.{openedModel, modelDecision, moved, modelAfter}
+use Rattle.drag_sheet.proofs.Nozzle.{nozzleAfter, nozzle-left}
 use Rattle.drag_sheet.proofs.Answers.{bounds}
 use Rattle.drag_sheet.proofs.CallLaws.{parts-few}
 
@@ -134,12 +135,15 @@ unfolding between ofBits lt le eq
 zero-passes = refl
 
 nozzle-kept : (call : Call) (c : Contents) → argumentsTest call (c .settings) (length (c .parts)) ≡ Passed → nozzleTest (c .nozzle) ≡ Passed → nozzleTest (applied call c .nozzle) ≡ Passed
-nozzle-kept (replace place p) c e h = h
-nozzle-kept (insert place p) c e h = h
-nozzle-kept (remove place) c e h = h
-nozzle-kept (setColumn k M R) c e h = h
-nozzle-kept (ignite n) c e h = e
-nozzle-kept burnout c e h = zero-passes
+nozzle-kept call c e h = rw (nozzle-left call c) (by call e)
+  where
+    by : (call : Call) → argumentsTest call (c .settings) (length (c .parts)) ≡ Passed → nozzleTest (nozzleAfter call (c .nozzle)) ≡ Passed
+    by (replace place p) e = h
+    by (insert place p) e = h
+    by (remove place) e = h
+    by (setColumn k M R) e = h
+    by (ignite n) e = e
+    by burnout e = zero-passes
 
 -- ---- all
 

@@ -56,10 +56,10 @@ pub record NextWritten (sheet : Sheet) (place : ℕ) (own xs : List Float) (r : 
   pub cells : ys ≡ chosen (rowTest (contentsOf sheet) (place + 1)) xs (overwritten (rows (bodyRows ++ (place + 1) ∷ [])) (contentsOf sheet) (written (place * sheet .settings .count) own xs))
 
 -- a sheet with another nozzle diameter
-abbrev pub nozzledAs : Float → Sheet → Sheet
-nozzledAs n sheet = record { settings = sheet .settings; design = sheet .design; «nozzle_diameter» = n }
+abbrev pub sheetWithNozzle : Float → Sheet → Sheet
+sheetWithNozzle n sheet = record { settings = sheet .settings; design = sheet .design; «nozzle_diameter» = n }
 
 -- a nozzle diameter put where the tests have passed, with its rows
 pub record NozzlePut (test : Check) (n : Float) (sheet : Sheet) (xs : List Float) (r : Answer) (ys : List Float) : Type 0 where
-  pub answer : r ≡ answered test sheet (nozzledAs n sheet)
-  pub cells : ys ≡ chosen test xs (overwritten (rows nozzleRows) (contentsOf (nozzledAs n sheet)) xs)
+  pub answer : r ≡ answered test sheet (sheetWithNozzle n sheet)
+  pub cells : ys ≡ chosen test xs (overwritten (rows nozzleRows) (contentsOf (sheetWithNozzle n sheet)) xs)

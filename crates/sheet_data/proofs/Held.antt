@@ -11,6 +11,7 @@ use Rattle.elementary.specs.Constants.{0·0, 1·0}
 use Rattle.drag.specs.Constants.{10000·0}
 use Rattle.aero_error.specs.declared.AeroError.the-variants.{Broken}
 use Rattle.aero_error.specs.declared.Rule.the-variants.{OutsideInterval}
+use Rattle.aero_error.specs.declared.Check.{Check}
 use Rattle.aero_error.specs.declared.Check.the-variants.{Passed, Failed}
 use Rattle.aero_error.specs.CheckLaws.{both-passed, up-each}
 use Rattle.sheet_data.specs.declared.PartRoughness.{PartRoughness}
@@ -18,6 +19,7 @@ use Rattle.sheet_data.specs.declared.PartRoughness.the-variants.{Own}
 use Rattle.sheet_data.specs.declared.Part.{Part}
 use Rattle.sheet_data.specs.Contents.{Contents, partAt}
 use Rattle.sheet_data.specs.Tests.{100·0, inInterval, ownTest, settingsTest, nozzleTest, partTest, partsTest, sheetTest}
+use Rattle.sheet_data.proofs.Order.{nozzle-before-parts}
 
 pub inside : (low x high : Float) → inInterval low x high ≡ Passed → between low x high ≡ true
 inside low x high h = by-test (between low x high) h
@@ -45,4 +47,8 @@ held-own ps i x h l e = given-own (partAt ps i) x (up-each _ (length ps) h i l) 
 -- "An n outside [0, 100], NaN too, is refusal 11": of a nozzle diameter held
 pub held-nozzle : (c : Contents) (cells count : ℕ) → sheetTest c cells count ≡ Passed → between 0·0 (c .nozzle) 100·0 ≡ true
 unfolding sheetTest
-held-nozzle c cells count h = inside 0·0 (c .nozzle) 100·0 (both-passed (nozzleTest (c .nozzle)) _ (both-passed (settingsTest (c .settings) cells) _ h .second) .first)
+held-nozzle c cells count h = inside 0·0 (c .nozzle) 100·0 (by (nozzleTest (c .nozzle)) refl)
+  where
+    by : (test : Check) → nozzleTest (c .nozzle) ≡ test → nozzleTest (c .nozzle) ≡ Passed
+    by Passed p = p
+    by (Failed e) p = let f = nozzle-before-parts c cells count e (both-passed (settingsTest (c .settings) cells) _ h .first) p in let z : _≡_ {A = ℕ} 0 1 = cc in absurd (omega arith)

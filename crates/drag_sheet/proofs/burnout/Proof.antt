@@ -1,7 +1,6 @@
 -- `burnout` meets its contract.
 use mathlib.Core.Path.{_≡_, refl, sym, _∙_}
 use lib.ListN.{length, length-map}
-use Rattle.elementary.specs.Constants.{0·0}
 use Rattle.aero_error.specs.declared.Check.the-variants.{Passed}
 use Rattle.aero_error.specs.CheckLaws.{then-passed}
 use Rattle.sheet_data.specs.Contents.{Fits}
@@ -24,7 +23,7 @@ unfolding tries
 returns c =
     let k = c .before .before .before .before in
     let s = k .before .before in
-    called-nozzle burnout 0·0 (s .args .sheet) (s .args .cells .now) _ _ _ (simp length-map at (s .good .0 .1 .1 .1 .0 .1 .1 .1 .0 .1 .0 .1)) (k .check-sheet .ensures ∙ sym (then-passed _)) (fits k) refl refl refl
+    called-nozzle burnout _ (s .args .sheet) (s .args .cells .now) _ _ _ (simp length-map at (s .good .0 .1 .1 .1 .0 .1 .1 .1 .0 .1 .0 .1)) (k .check-sheet .ensures ∙ sym (then-passed _)) (fits k) refl refl refl
     (c .before .before .put-nozzle .ensures)
 
 pub burnout-spec : {M : Type 1} → statement M
