@@ -25,6 +25,15 @@ use Rattle.drag_sheet.proofs.OnlyCurves.{last-inside}
 
 -- ---- the base's share of the reference area
 
+-- d, n and D: a nozzle smaller than the base, as large, larger, and none
+abbrev points : List (Float × Float × Float)
+points = (2·0, 1·0, 2·0) ∷ (1·0, 1·0, 1·0) ∷ (1·0, 2·0, 1·0) ∷ (2·0, bits 0x8000_0000_0000_0000, 2·0) ∷ []
+
+pub shares : map (λ p. baseRatio (p .0) (p .1) (p .2)) points ≡ bits 0x3fe8_0000_0000_0000 ∷ 0·0 ∷ 0·0 ∷ 1·0 ∷ []  -- 0.75, 0, 0, 1
+unfolding baseRatio sub add neg sum mul div round lt le eq ofBits
+shares = refl
+
+-- and for every d, n and D
 module _ (d n D : Float) where
   pub nozzle-above : (d ≺ n) ≡ true → baseRatio d n D ≡ 0·0
   unfolding baseRatio
@@ -33,14 +42,6 @@ module _ (d n D : Float) where
   pub nozzle-within : (d ≺ n) ≡ false → baseRatio d n D ≡ (d ⊗ d ⊖ n ⊗ n) ⊘ (D ⊗ D)
   unfolding baseRatio
   nozzle-within h = rw h
-
--- d, n and D: a nozzle smaller than the base, as large, larger, and none
-abbrev points : List (Float × Float × Float)
-points = (2·0, 1·0, 2·0) ∷ (1·0, 1·0, 1·0) ∷ (1·0, 2·0, 1·0) ∷ (2·0, bits 0x8000_0000_0000_0000, 2·0) ∷ []
-
-pub shares : map (λ p. baseRatio (p .0) (p .1) (p .2)) points ≡ bits 0x3fe8_0000_0000_0000 ∷ 0·0 ∷ 0·0 ∷ 1·0 ∷ []  -- 0.75, 0, 0, 1
-unfolding baseRatio sub add neg sum mul div round lt le eq ofBits
-shares = refl
 
 -- ---- coasting
 
