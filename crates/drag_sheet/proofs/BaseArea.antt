@@ -1,12 +1,12 @@
 -- What the nozzle diameter does to the base. Its share of the reference area: "d×d - n×n over D×D, and +0 when n is above d", computed at points on either side of d; and
 -- coasting, with n = 0, the share and the tests of document 01.
 use mathlib.Core.Path.{_≡_, refl, ap, _∙_}
-use mathlib.Core.Bool.{Bool, true, false, _&&_}
+use mathlib.Core.Bool.{true, false}
 use mathlib.Core.List.{List, [], _∷_, map}
 use Prim.Native.Nat.{ℕ}
-use lib.Dec.{T, ltb}
+use lib.Dec.{ltb}
 use lib.Ieee.{Float, binary64, neg, sum, add, sub, mul, div, round, ofBits, lt, le, eq}
-use lib.Ieee.Fits.{mul-fits}
+use lib.Ieee.Fits.{mul-fits, and-l}
 use Rattle.elementary.specs.Arithmetic.{_⊖_, _⊗_, _⊘_, _≺_, _≼_, bits}
 use Rattle.elementary.specs.Tests.{between}
 use Rattle.elementary.specs.Constants.{0·0, 1·0, 2·0}
@@ -61,11 +61,7 @@ coasting-ratio d D h = nozzle-within d 0·0 D h ∙ ap (λ (x : Float). x ⊘ (D
 -- at or above 0
 not-below : (x high : Float) → between 0·0 x high ≡ true → (x ≺ 0·0) ≡ false
 unfolding between
-not-below x high h = not-above 0·0 x (first (0·0 ≼ x) (x ≼ high) h)
-  where
-    first : (a b : Bool) → (a && b) ≡ true → T a
-    first true b e = tt
-    first false b e = true-T e
+not-below x high h = not-above 0·0 x (and-l (0·0 ≼ x) (x ≼ high) (true-T h))
 
 -- and so is the cell of contents that pass their tests: "base drag at M × ((last d × last d)/(D×D)), last d being 0 without parts"
 pub coasting-base : (c : Contents) (cells : ℕ) (M : Float) → Tested c cells → c .nozzle ≡ 0·0

@@ -13,7 +13,7 @@ use Rattle.sheet_data.specs.declared.Part.{Part}
 use Rattle.sheet_data.specs.declared.Design.{Design}
 use Rattle.sheet_data.specs.declared.Sheet.{Sheet}
 use Rattle.sheet_data.specs.Layout.{most-parts}
-use Rattle.sheet_data.specs.Contents.{Contents, contentsOf, partsOf, Fits}
+use Rattle.sheet_data.specs.Contents.{Contents, contentsOf, partsOf}
 use Rattle.sheet_data.specs.Rows.{written, rowsWritten}
 use Rattle.sheet_data.specs.RowLaws.{rows-append}
 use Rattle.drag_sheet.specs.Build.{rowTest, rowOf}
@@ -21,7 +21,7 @@ use Rattle.drag_sheet.specs.Writing.{chosen, rows, totalled, overwritten
 use Rattle.drag_sheet.specs.declared.Answer.{Answer}
 use Rattle.drag_sheet.specs.Calls.{Call, replace, insert, remove, setColumn, insertAt, removeAt, withColumn, withNozzle, rowTestWhere, replacedRows, nozzleRows, bodyRows, tries, scope, after, callTest, sheetWith, answered, Called}
 use Rattle.drag_sheet.specs.Edits.{replacedIn, Changed, sheetWithNozzle, NozzlePut}
-use Rattle.drag_sheet.proofs.Answers.{called, contents-with}
+use Rattle.drag_sheet.proofs.Answers.{call-facts, called, contents-with}
 use Rattle.drag_sheet.proofs.Slots.{inserted-long, removed-long}
 
 module _ (c : Contents) (xs : List Float) (place : ℕ) where
@@ -104,13 +104,13 @@ called-changed sheet left place p xs test r ys ok n f a =
 -- ---- a nozzle diameter put: the contract
 
 pub called-nozzle : (call : Call) (n : Float) (sheet : Sheet) (xs : List Float) (test : Check) (r : Answer) (ys : List Float) → length (sheet .design .parts) ≡ most-parts
-    → test ≡ callTest call sheet (length xs) → (test ≡ Passed → Fits sheet (length xs)) → tries call (after call sheet) ≡ Passed → after call sheet ≡ withNozzle n (contentsOf sheet)
+    → test ≡ callTest call sheet (length xs) → tries call (after call sheet) ≡ Passed → after call sheet ≡ withNozzle n (contentsOf sheet)
     → scope call (after call sheet) ≡ rows nozzleRows → NozzlePut test n sheet xs r ys → Called call sheet xs r ys
-called-nozzle call n sheet xs test r ys slots t fits none left only f = by test refl
+called-nozzle call n sheet xs test r ys slots t none left only f = by test refl
   where
     by : (d : Check) → test ≡ d → Called call sheet xs r ys
     by (Failed e) p = let q = sym t ∙ p in record { answer = f .answer ∙ rw (p, q); left = f .cells ∙ rw (p, q) }
     by Passed p =
         let q = sym t ∙ p in
-        let same : sheetWithNozzle n sheet ≡ sheetWith (after call sheet) sheet = nozzle-sheet sheet slots (fits p .parts) n ∙ ap (λ (c : Contents). sheetWith c sheet) (sym left) in
+        let same : sheetWithNozzle n sheet ≡ sheetWith (after call sheet) sheet = nozzle-sheet sheet slots (call-facts call sheet (length xs) q .fits .parts) n ∙ ap (λ (c : Contents). sheetWith c sheet) (sym left) in
         called call sheet xs r ys Passed (sheetWithNozzle n sheet) q (sym none) same (f .answer ∙ rw p) (f .cells ∙ rw (p, only, left))

@@ -8,7 +8,7 @@ use native.Mathlib.Omega.{arith}
 use lib.ListN.{length, length-set}
 use lib.Seq.{length-take-le}
 use lib.Dec.{ltb}
-use lib.Ieee.{Float, lt, le, eq, ofBits}
+use lib.Ieee.{Float, ofBits}
 use lib.Ieee.Scale.{finite}
 use borrow.Author.Tests.{ltb-true}
 use Rattle.elementary.specs.Arithmetic.{_⊕_, _⊖_, _⊘_, _≺_}
@@ -45,7 +45,7 @@ use Rattle.drag_sheet.specs.Calls.{Call, replace, insert, remove, setCol
 use Rattle.drag_sheet.proofs.Verdicts.{never}
 use Rattle.drag_sheet.proofs.Refusals.{then-failed, then-first, up-refused}
 use Rattle.drag_sheet.proofs.Answers.{call-facts, Bounds, bounds}
-use Rattle.drag_sheet.proofs.TestsKept.{Tested, tested-after}
+use Rattle.drag_sheet.proofs.TestsKept.{zero-passes, Tested, tested-after}
 
 -- ---- what the tests have shown
 
@@ -149,10 +149,6 @@ hundred-finite : finite 100·0 ≡ true
 unfolding ofBits
 hundred-finite = refl
 
-zero-inside : between 0·0 0·0 100·0 ≡ true
-unfolding between ofBits lt le eq
-zero-inside = refl
-
 -- a row that is ready is made at every Mach number
 made : {f : Float} {part : Part} {p : Prepared} (M : Float) → Way f part p → between 0·0 f 100·0 ≡ true → Sized part → machChecked M ≡ Passed → readyTest p ≡ Passed → madeTest (cellFrom p M) ≡ Passed
 unfolding cellOf
@@ -165,7 +161,7 @@ made M level fore s m h = refl
 -- the fore diameter is an aft diameter, or +0
 fore-inside : (c : Contents) → Ranges c → (i : ℕ) → i ≤ length (c .parts) → between 0·0 (foreAt (c .parts) i) 100·0 ≡ true
 unfolding foreAt
-fore-inside c r zero h = zero-inside
+fore-inside c r zero h = inside 0·0 0·0 100·0 zero-passes
 fore-inside c r (suc i) h = r .parts i (omega arith) .aft
 
 module _ (c : Contents) (cells : ℕ) (tested : Tested c cells) where

@@ -1,9 +1,7 @@
 -- `burnout` meets its contract.
-use mathlib.Core.Path.{_≡_, refl, sym, _∙_}
+use mathlib.Core.Path.{refl, sym, _∙_}
 use lib.ListN.{length, length-map}
-use Rattle.aero_error.specs.declared.Check.the-variants.{Passed}
 use Rattle.aero_error.specs.CheckLaws.{then-passed}
-use Rattle.sheet_data.specs.Contents.{Fits}
 use Rattle.drag_sheet.specs.Calls.{burnout, tries}
 use Rattle.drag_sheet.proofs.Answers.{sheet-fits}
 use Rattle.drag_sheet.proofs.Changed.{called-nozzle}
@@ -11,19 +9,15 @@ use borrow.Author.Needs.{needs}
 use Rattle.drag_sheet.proofs.burnout.Statement.{statement}
 use Rattle.drag_sheet.proofs.burnout.Tie as tie
 
--- once its tests have passed
-fits : (c : tie.After-check-sheet) → let s = c .before .before in c .check-sheet .result ≡ Passed → Fits (s .args .sheet) (length (s .args .cells .now))
-fits c e = let s = c .before .before in sheet-fits (s .args .sheet) (length (s .args .cells .now)) (sym (c .check-sheet .ensures) ∙ e)
-
 put-nozzle-requires : tie.Need-put-nozzle-requires
-put-nozzle-requires c κs = fits (c .before)
+put-nozzle-requires c κs = let s = c .before .before .before in λ e. sheet-fits (s .args .sheet) (length (s .args .cells .now)) (sym (c .before .check-sheet .ensures) ∙ e)
 
 returns : tie.Need-returns
 unfolding tries
 returns c =
     let k = c .before .before .before .before in
     let s = k .before .before in
-    called-nozzle burnout _ (s .args .sheet) (s .args .cells .now) _ _ _ (simp length-map at (s .good .0 .1 .1 .1 .0 .1 .1 .1 .0 .1 .0 .1)) (k .check-sheet .ensures ∙ sym (then-passed _)) (fits k) refl refl refl
+    called-nozzle burnout _ (s .args .sheet) (s .args .cells .now) _ _ _ (simp length-map at (s .good .0 .1 .1 .1 .0 .1 .1 .1 .0 .1 .0 .1)) (k .check-sheet .ensures ∙ sym (then-passed _)) refl refl refl
     (c .before .before .put-nozzle .ensures)
 
 pub burnout-spec : {M : Type 1} → statement M

@@ -1,8 +1,6 @@
 -- `ignite` meets its contract.
-use mathlib.Core.Path.{_≡_, refl, sym, _∙_}
+use mathlib.Core.Path.{refl, sym, _∙_}
 use lib.ListN.{length, length-map}
-use Rattle.aero_error.specs.declared.Check.the-variants.{Passed}
-use Rattle.sheet_data.specs.Contents.{Fits}
 use Rattle.drag_sheet.specs.Calls.{ignite, tries}
 use Rattle.drag_sheet.proofs.Answers.{call-facts}
 use Rattle.drag_sheet.proofs.Changed.{called-nozzle}
@@ -10,19 +8,15 @@ use borrow.Author.Needs.{needs}
 use Rattle.drag_sheet.proofs.ignite.Statement.{statement}
 use Rattle.drag_sheet.proofs.ignite.Tie as tie
 
--- once its tests have passed
-fits : (c : tie.After-check-ignite) → let s = c .before .before in c .check-ignite .result ≡ Passed → Fits (s .args .sheet) (length (s .args .cells .now))
-fits c e = let s = c .before .before in call-facts (ignite (s .args .nozzle-diameter)) (s .args .sheet) (length (s .args .cells .now)) (sym (c .check-ignite .ensures) ∙ e) .fits
-
 put-nozzle-requires : tie.Need-put-nozzle-requires
-put-nozzle-requires c κs = fits (c .before)
+put-nozzle-requires c κs = let s = c .before .before .before in λ e. call-facts (ignite (s .args .nozzle-diameter)) (s .args .sheet) (length (s .args .cells .now)) (sym (c .before .check-ignite .ensures) ∙ e) .fits
 
 returns : tie.Need-returns
 unfolding tries
 returns c =
     let k = c .before .before .before .before in
     let s = k .before .before in
-    called-nozzle (ignite (s .args .nozzle-diameter)) (s .args .nozzle-diameter) (s .args .sheet) (s .args .cells .now) _ _ _ (simp length-map at (s .good .0 .1 .1 .1 .0 .1 .1 .1 .0 .1 .0 .1)) (k .check-ignite .ensures) (fits k)
+    called-nozzle (ignite (s .args .nozzle-diameter)) (s .args .nozzle-diameter) (s .args .sheet) (s .args .cells .now) _ _ _ (simp length-map at (s .good .0 .1 .1 .1 .0 .1 .1 .1 .0 .1 .0 .1)) (k .check-ignite .ensures)
     refl refl refl (c .before .before .put-nozzle .ensures)
 
 pub ignite-spec : {M : Type 1} → statement M
