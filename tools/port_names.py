@@ -33,6 +33,7 @@ CHOSEN = {
     "frictionRow": "friction_row_cells",
     "oneMore": "counted_on",
     "short-of": "is_short_of",
+    "curveOf": "curve_from",
 }
 
 
@@ -46,7 +47,7 @@ def source_files():
 
 
 def is_walk(path):
-    return path.endswith(("/Proof.antt", "/Answers.antt", "/Invariants.antt"))
+    return path.endswith("/Proof.antt")
 
 
 def read(path):

@@ -29,7 +29,7 @@ use Rattle.card_run.specs.Run.{Ran, insert_last, all_part_cards, first_card, str
 use Rattle.card_run.specs.Said.{parts_said, said}
 use Rattle.card_run.proofs.Stream.{sheet_then, cells_then, part_reach, cards_end, part_accepted, outcome, Turn, ended, carded, turn}
 use Rattle.card_run.proofs.Prefix.{Held, one_more_held}
-use Rattle.card_run.proofs.Answers.{stream-opened, stream-passed}
+use Rattle.card_run.proofs.Answers.{stream_opened, stream_passed}
 
 -- ---- the calls of a run
 
@@ -128,8 +128,8 @@ module _ (s : List ℕ) (xs : List Float) where
 
   both : outcome (stream_of s xs) ≡ Passed → Matches (stream_of s xs).run.sheet (stream_of s xs).cells (said s) × Tested (said s) (length xs)
   both o =
-      let q = stream-passed s xs card refl o in
-      let e = stream-opened s xs card refl q.0 q.1 in
+      let q = stream_passed s xs card refl o in
+      let e = stream_opened s xs card refl q.0 q.1 in
       rw e (built_from q.1 (ap outcome (sym e) ∙ o))
 
   -- the settings and the design are what the cards say, and the rows are one build of them

@@ -24,7 +24,7 @@ use Rattle.cards.specs.Cards.{part_at, no_settings, settings_at}
 use Rattle.cards.proofs.Extents.{part_extent, settings_extent}
 use Rattle.card_run.specs.Run.{Ran, stopped, stopped_at, first_card, all_part_cards, stream_of}
 use Rattle.card_run.proofs.Stream.{sheet_then, cells_then, part_reach, cards_end, card_refused, part_accepted, outcome, Turn, ended, carded, turn}
-use Rattle.card_run.proofs.Answers.{first-of-some, stream-unread, stream-opened, stream-passed}
+use Rattle.card_run.proofs.Answers.{first_of_some, stream_unread, stream_opened, stream_passed}
 use Rattle.card_run.proofs.NoCard.{no_bytes}
 
 -- accepted, or refused with 4
@@ -81,25 +81,25 @@ module _ (t u : List ℕ) where
     pub inside_settings : card.outcome ≡ Passed → length t < card.next → stream_of t xs ≡ stopped_at 0 (Failed (Broken CardEnds)) (blank (no_settings (Broken CardEnds)).settings) xs
     inside_settings o l =
         let c = settings_extent.cut (t ++ u) (length t) 0 card.next (o, refl) (omega arith) l in
-        stream-unread t xs (no_settings (Broken CardEnds)) (sym (first-of-some t some ∙ ap (λ (s : List ℕ). settings_at s 0) (sym start) ∙ c)) (Broken CardEnds) refl
+        stream_unread t xs (no_settings (Broken CardEnds)) (sym (first_of_some t some ∙ ap (λ (s : List ℕ). settings_at s 0) (sym start) ∙ c)) (Broken CardEnds) refl
 
     settings_cut : outcome (stream_of (t ++ u) xs) ≡ Passed → AtWorstShort (stream_of t xs)
     settings_cut o = by_end (ltb (length t) card.next) refl
       where
         first : card ≡ first_card (t ++ u)
-        first = let e = length-append t u in sym (first-of-some (t ++ u) (omega (arith, e)))
+        first = let e = length-append t u in sym (first_of_some (t ++ u) (omega (arith, e)))
 
         passed : (card.outcome ≡ Passed) × (settings_test card.settings (length xs) ≡ Passed)
-        passed = stream-passed (t ++ u) xs card first o
+        passed = stream_passed (t ++ u) xs card first o
 
         by_end : (b : Bool) → ltb (length t) card.next ≡ b → AtWorstShort (stream_of t xs)
         by_end true e = short (ap outcome (inside_settings passed.0 (ltb-true (length t) card.next e)))
         by_end false e =
             let k = settings_extent.kept (t ++ u) (length t) 0 card.next (passed.0, refl) (ltb-false (length t) card.next e) in
-            let same = k ∙ ap (λ (s : List ℕ). settings_at s 0) start ∙ sym (first-of-some t some) in
-            subst AtWorstShort (sym (stream-opened t xs card same passed.0 passed.1))
+            let same = k ∙ ap (λ (s : List ℕ). settings_at s 0) start ∙ sym (first_of_some t some) in
+            subst AtWorstShort (sym (stream_opened t xs card same passed.0 passed.1))
             (parts_cut (length (t ++ u)) card.next (blank card.settings) (overwritten whole (contents_of (blank card.settings)) xs) (omega arith)
-            (ap outcome (sym (stream-opened (t ++ u) xs card first passed.0 passed.1)) ∙ o))
+            (ap outcome (sym (stream_opened (t ++ u) xs card first passed.0 passed.1)) ∙ o))
 
 -- no cut is refused with another number than 4, and the one before the first byte is accepted
 pub cut_anywhere : (t u : List ℕ) (xs : List Float) → outcome (stream_of (t ++ u) xs) ≡ Passed → AtWorstShort (stream_of t xs)

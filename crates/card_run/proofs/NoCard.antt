@@ -22,7 +22,7 @@ use Rattle.cards.specs.Cards.{columns_at, fineness_at, settings_fields, settings
 use Rattle.card_run.specs.Run.{Ran, stopped_at, no_card, stream_from, stream_of}
 use Rattle.card_run.specs.Said.{parts_said, said}
 use Rattle.card_run.proofs.Stream.{cards_end, outcome}
-use Rattle.card_run.proofs.Answers.{first-of-some}
+use Rattle.card_run.proofs.Answers.{first_of_some}
 use Rattle.card_run.proofs.Built.{stream_built}
 
 -- the bytes of 1, low byte first, and of a settings card with D = 1 and B = 1 alone
@@ -70,4 +70,4 @@ module _ (xs : List Float) where
   -- every stream that has a byte: as if there were no other
   pub other_streams : (s : List ℕ) → 0 < length s → stream_of s xs ≡ stream_from s (settings_at s 0) xs
   unfolding stream_of
-  other_streams s h = rw (first-of-some s h)
+  other_streams s h = rw (first_of_some s h)

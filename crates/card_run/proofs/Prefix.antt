@@ -23,7 +23,7 @@ use Rattle.cards.specs.Cards.{settings_at, settings_bytes, part_bytes}
 use Rattle.cards.proofs.Extents.{part_extent, settings_extent}
 use Rattle.card_run.specs.Run.{Ran, insert_last, part_cards, on_check, stopped_at, first_card, stream_from, stream_of, stream_bytes}
 use Rattle.card_run.proofs.Stream.{sheet_then, cells_then, same_card, card_first, part_reach}
-use Rattle.card_run.proofs.Answers.{one_more, accepted-part}
+use Rattle.card_run.proofs.Answers.{one_more, accepted_part}
 
 -- the array of a design holds its parts
 abbrev pub Held : Sheet → Type 0
@@ -66,7 +66,7 @@ module _ (s : List ℕ) where
       card_first n s at sheet xs i
       ∙ same_card s (take stream_bytes s) at sheet xs (part_cards (n - 1) s) (part_cards (m - 1) (take stream_bytes s))
       (same_end at (omega arith)) (λ k. part_extent.same s stream_bytes at h)
-      (λ part next k p v. go part next k (part_reach s at part next p) (accepted-part sheet (length xs) part v).room)
+      (λ part next k p v. go part next k (part_reach s at part next p) (accepted_part sheet (length xs) part v).room)
       ∙ sym (card_first m (take stream_bytes s) at sheet xs j)
 
   -- d parts can still be inserted

@@ -46,21 +46,21 @@ use Rattle.cobalnis.specs.Words.{first_part, spread, part_words, settings_of, se
 -- ---- the status and the bits of an answer
 
 -- 0 is accepted; a refusal's number, plus 256 times the code of refusal 1
-abbrev pub statusOf : AeroError → ℕ
-statusOf e = (told_of e).number + 256 * (told_of e).code
+abbrev pub status_of : AeroError → ℕ
+status_of e = (told_of e).number + 256 * (told_of e).code
 
 -- for a number that names no formula, shape, nose or quantity
 abbrev pub no_such : ℕ
 no_such = 65535
 
-abbrev pub answerStatus : Coefficient → ℕ
-answerStatus (Value v) = 0
-answerStatus (Refused e) = statusOf e
+abbrev pub answer_status : Coefficient → ℕ
+answer_status (Value v) = 0
+answer_status (Refused e) = status_of e
 
 -- the bits of the value, or of the value refused
-abbrev pub answerBits : Coefficient → ℕ
-answerBits (Value v) = to_bits binary64 v
-answerBits (Refused e) = to_bits binary64 (told_of e).value
+abbrev pub answer_bits : Coefficient → ℕ
+answer_bits (Value v) = to_bits binary64 v
+answer_bits (Refused e) = to_bits binary64 (told_of e).value
 
 -- a test that passes answers +0
 abbrev pub tested : Check → Coefficient
@@ -94,68 +94,68 @@ formulas a b c d e =
     ∷ Is (Value (parameter_of lv_haack))
     ∷ []
 
-unfoldable pub formulaOf : ℕ → Float → Float → Float → Float → Float → Formula
-formulaOf which a b c d e = get_or (formulas a b c d e) which Unknown
+unfoldable pub formula_of : ℕ → Float → Float → Float → Float → Float → Formula
+formula_of which a b c d e = get_or (formulas a b c d e) which Unknown
 
-abbrev pub formulaStatus : Formula → ℕ
-formulaStatus (Is c) = answerStatus c
-formulaStatus Unknown = no_such
+abbrev pub formula_status : Formula → ℕ
+formula_status (Is c) = answer_status c
+formula_status Unknown = no_such
 
 -- the lent word, which stays as it was where the number names no formula
-abbrev pub formulaBits : Formula → ℕ → ℕ
-formulaBits (Is c) before = answerBits c
-formulaBits Unknown before = before
+abbrev pub formula_bits : Formula → ℕ → ℕ
+formula_bits (Is c) before = answer_bits c
+formula_bits Unknown before = before
 
 -- whether a number is one of the codes 1 to 22
 abbrev pub is_code : ℕ → Bool
 is_code what = cond (eqb what 0) false (leb what 22)
 
 -- a dimension's test under a code: refusal 1 with that code and the value
-abbrev pub dimensionStatus : ℕ → Bool → ℕ
-dimensionStatus what ok = cond (is_code what) (cond ok 0 (1 + 256 * what)) no_such
+abbrev pub dimension_status : ℕ → Bool → ℕ
+dimension_status what ok = cond (is_code what) (cond ok 0 (1 + 256 * what)) no_such
 
-abbrev pub dimensionBits : ℕ → Bool → Float → ℕ → ℕ
-dimensionBits what ok value before = cond (is_code what) (cond ok 0 (to_bits binary64 value)) before
+abbrev pub dimension_bits : ℕ → Bool → Float → ℕ → ℕ
+dimension_bits what ok value before = cond (is_code what) (cond ok 0 (to_bits binary64 value)) before
 
 -- ---- the classes of IEEE 754, by their numbers from 0
 
-abbrev pub classNumber : FloatClass → ℕ
-classNumber Zero = 0
-classNumber Subnormal = 1
-classNumber Normal = 2
-classNumber Infinity = 3
-classNumber NaN = 4
+abbrev pub class_number : FloatClass → ℕ
+class_number Zero = 0
+class_number Subnormal = 1
+class_number Normal = 2
+class_number Infinity = 3
+class_number NaN = 4
 
 -- r is the number of the class that the bits b are in
 pub record ClassShown (b r : ℕ) : Type 0 where
   pub class : FloatClass
   pub holds : InClass class b
-  pub shown : r ≡ classNumber class
+  pub shown : r ≡ class_number class
 
 -- ---- Stoney's noses, by their numbers from 0
 
-abbrev pub isNose : ℕ → Bool
-isNose n = leb n 8
+abbrev pub is_nose : ℕ → Bool
+is_nose n = leb n 8
 
 -- the point at a place of a nose's table
-abbrev pub pointStatus : ℕ → ℕ → ℕ
-pointStatus nose place = cond (isNose nose) (cond (leb (range_of (nose_at nose)).count place) 8 0) no_such
+abbrev pub point_status : ℕ → ℕ → ℕ
+point_status nose place = cond (is_nose nose) (cond (leb (range_of (nose_at nose)).count place) 8 0) no_such
 
-abbrev pub pointWords : ℕ → ℕ → List ℕ → List ℕ
-pointWords nose place before =
+abbrev pub point_words : ℕ → ℕ → List ℕ → List ℕ
+point_words nose place before =
     let at = (range_of (nose_at nose)).first + place in
-    cond (isNose nose) (cond (leb (range_of (nose_at nose)).count place) before (to_bits binary64 (mach_at at) ∷ to_bits binary64 (drag_at at) ∷ [])) before
+    cond (is_nose nose) (cond (leb (range_of (nose_at nose)).count place) before (to_bits binary64 (mach_at at) ∷ to_bits binary64 (drag_at at) ∷ [])) before
 
 -- the table's value and slope at a Mach, and its first Mach
-abbrev pub lookupWords : ℕ → Float → List ℕ → List ℕ
-lookupWords nose M before =
+abbrev pub lookup_words : ℕ → Float → List ℕ → List ℕ
+lookup_words nose M before =
     let at = value_and_slope (nose_at nose) M in
-    cond (isNose nose) (to_bits binary64 at.value ∷ to_bits binary64 at.slope ∷ to_bits binary64 (first_mach (nose_at nose)) ∷ []) before
+    cond (is_nose nose) (to_bits binary64 at.value ∷ to_bits binary64 at.slope ∷ to_bits binary64 (first_mach (nose_at nose)) ∷ []) before
 
 -- the answer of `walk`'s own call: accepted, the count is handed out; refused, it is as it was, and the value refused is handed out
 abbrev pub WalkShown : Walked → ℕ → ℕ → ℕ → ℕ → Type 0
 WalkShown (Compared n) r before compared bits' = (r ≡ 0) × (compared ≡ n) × (bits' ≡ 0)
-WalkShown (NotWalked e) r before compared bits' = (r ≡ statusOf e) × (compared ≡ before) × (bits' ≡ to_bits binary64 (told_of e).value)
+WalkShown (NotWalked e) r before compared bits' = (r ≡ status_of e) × (compared ≡ before) × (bits' ≡ to_bits binary64 (told_of e).value)
 
 pub record NoseWalked (nose : ℕ) (Ms xs : List Float) (before r : ℕ) (ys : List Float) (compared bits' : ℕ) : Type 0 where
   pub answer : Walked
@@ -170,14 +170,14 @@ WalkDone false nose Ms xs before bits r ys compared bits' = (r ≡ no_such) × (
 -- ---- curves
 
 -- the curve of a shape's number; 6 is the step
-abbrev pub curveOf : ℕ → Float → Float → Float → Curve
-curveOf shape parameter fineness angle = cond (eqb shape 6) (Built step_curve) (new_curve (shape_of shape parameter) fineness angle)
+abbrev pub curve_from : ℕ → Float → Float → Float → Curve
+curve_from shape parameter fineness angle = cond (eqb shape 6) (Built step_curve) (new_curve (shape_of shape parameter) fineness angle)
 
-abbrev pub coefficientBits : PressureDragCurve → Float → ℕ
-coefficientBits curve M = answerBits (coefficient_of curve M)
+abbrev pub coefficient_bits : PressureDragCurve → Float → ℕ
+coefficient_bits curve M = answer_bits (coefficient_of curve M)
 
-abbrev pub coefficientWord : PressureDragCurve → Float → List ℕ
-coefficientWord curve M = coefficientBits curve M ∷ []
+abbrev pub coefficient_word : PressureDragCurve → Float → List ℕ
+coefficient_word curve M = coefficient_bits curve M ∷ []
 
 -- the value refused, the value at rest and the transonic lower bound
 abbrev pub about : Float → PressureDragCurve → List ℕ
@@ -185,11 +185,11 @@ about value curve = to_bits binary64 value ∷ to_bits binary64 curve.rest ∷ t
 
 -- a curve at these Machs: the status r, the lent words before (xs) and after (ys), and what is said about the curve
 abbrev pub ReadAt : Check → PressureDragCurve → List Float → List ℕ → ℕ → List ℕ → List ℕ → Type 0
-ReadAt Passed curve machs xs r ys said = (r ≡ 0) × (ys ≡ sets xs 0 (spread (coefficientWord curve) machs)) × (said ≡ about 0·0 curve)
-ReadAt (Failed e) curve machs xs r ys said = (r ≡ statusOf e) × (ys ≡ xs) × (said ≡ about (told_of e).value curve)
+ReadAt Passed curve machs xs r ys said = (r ≡ 0) × (ys ≡ sets xs 0 (spread (coefficient_word curve) machs)) × (said ≡ about 0·0 curve)
+ReadAt (Failed e) curve machs xs r ys said = (r ≡ status_of e) × (ys ≡ xs) × (said ≡ about (told_of e).value curve)
 
 abbrev pub CurveDone : Curve → List Float → List ℕ → ℕ → List ℕ → List ℕ → Type 0
-CurveDone (NotBuilt e) machs xs r ys said = (r ≡ statusOf e) × (ys ≡ xs) × (said ≡ to_bits binary64 (told_of e).value ∷ 0 ∷ 0 ∷ [])
+CurveDone (NotBuilt e) machs xs r ys said = (r ≡ status_of e) × (ys ≡ xs) × (said ≡ to_bits binary64 (told_of e).value ∷ 0 ∷ 0 ∷ [])
 CurveDone (Built curve) machs xs r ys said = ReadAt (unless (ltb (length xs) (length machs)) TooFewCells then machs_test machs) curve machs xs r ys said
 
 -- a shape's number above 6 names none
@@ -202,7 +202,7 @@ CurveAnswered true curve machs xs before r ys said = (r ≡ no_such) × (ys ≡ 
 -- accepted, the words are those of the sheet handed back; refused, they are as they were, and the value refused is handed out
 abbrev pub Shown : Check → Sheet → List ℕ → ℕ → List ℕ → ℕ → Type 0
 Shown Passed sheet ws r ws' bits' = (r ≡ 0) × (ws' ≡ sheet_words sheet) × (bits' ≡ 0)
-Shown (Failed e) sheet ws r ws' bits' = (r ≡ statusOf e) × (ws' ≡ ws) × (bits' ≡ to_bits binary64 (told_of e).value)
+Shown (Failed e) sheet ws r ws' bits' = (r ≡ status_of e) × (ws' ≡ ws) × (bits' ≡ to_bits binary64 (told_of e).value)
 
 -- the answer of `drag_sheet`'s own call on the sheet that the words stand for, shown in words
 pub record CallShown (call : Call) (ws : List ℕ) (xs : List Float) (r : ℕ) (ws' : List ℕ) (bits' : ℕ) (ys : List Float) : Type 0 where
@@ -218,21 +218,21 @@ pub record OpenShown (ws : List ℕ) (xs : List Float) (r : ℕ) (ws' : List ℕ
 -- where every shape has a number up to 5; else refusal 5 before all others
 abbrev pub CallDone : Bool → Call → List ℕ → List Float → ℕ → List ℕ → ℕ → List Float → Type 0
 CallDone true call ws xs r ws' bits' ys = CallShown call ws xs r ws' bits' ys
-CallDone false call ws xs r ws' bits' ys = (r ≡ statusOf (Broken ReservedBit)) × (ws' ≡ ws) × (bits' ≡ 0) × (ys ≡ xs)
+CallDone false call ws xs r ws' bits' ys = (r ≡ status_of (Broken ReservedBit)) × (ws' ≡ ws) × (bits' ≡ 0) × (ys ≡ xs)
 
-abbrev pub sheetKnown : List ℕ → Bool
-sheetKnown ws = shapes_known most_parts (drop first_part ws)
+abbrev pub sheet_known : List ℕ → Bool
+sheet_known ws = shapes_known most_parts (drop first_part ws)
 
-abbrev pub partKnown : List ℕ → List ℕ → Bool
-partKnown part ws = cond (ltb 5 (get_or part 0 0)) false (sheetKnown ws)
+abbrev pub part_known : List ℕ → List ℕ → Bool
+part_known part ws = cond (ltb 5 (get_or part 0 0)) false (sheet_known ws)
 
 -- ---- cards
 
 abbrev pub PartCard : PartRead → ℕ → List ℕ → List ℕ → ℕ → ℕ → Type 0
 PartCard (Read part last) r ws ws' next next' = (r ≡ 0) × (ws' ≡ part_words part) × (next' ≡ last)
-PartCard (NoPart e) r ws ws' next next' = (r ≡ statusOf e) × (ws' ≡ ws) × (next' ≡ next)
+PartCard (NoPart e) r ws ws' next next' = (r ≡ status_of e) × (ws' ≡ ws) × (next' ≡ next)
 
 -- a settings card gives a sheet's first words
 abbrev pub SettingsCard : Check → SettingsRead → ℕ → List ℕ → List ℕ → ℕ → ℕ → Type 0
 SettingsCard Passed read r ws ws' next next' = (r ≡ 0) × (ws' ≡ sets ws 0 (settings_words read.settings)) × (next' ≡ read.next)
-SettingsCard (Failed e) read r ws ws' next next' = (r ≡ statusOf e) × (ws' ≡ ws) × (next' ≡ next)
+SettingsCard (Failed e) read r ws ws' next next' = (r ≡ status_of e) × (ws' ≡ ws) × (next' ≡ next)

@@ -3,7 +3,7 @@ ghost use Rattle.std.specs.Prelude.{◌≡◌};
 ghost use Rattle.std.specs.Float.Ieee.{to_bits};
 ghost use Rattle.std.specs.Float.{binary64};
 ghost use Rattle.aero_error.specs.Refusals.{refused_value};
-ghost use Rattle.cobalnis.specs.Answers.{statusOf, answerStatus, answerBits, tested};
+ghost use Rattle.cobalnis.specs.Answers.{status_of, answer_status, answer_bits, tested};
 
 use aero_error::{AeroError, Check, Coefficient};
 
@@ -11,7 +11,7 @@ use aero_error::{AeroError, Check, Coefficient};
 pub(crate) const NO_SUCH: u32 = 65535;
 
 pub(crate) fn status_of(e: AeroError) -> u32
-    ensures { result ≡ statusOf e }
+    ensures { result ≡ status_of e }
 {
     let number = e.number();
     let code = e.code();
@@ -19,14 +19,14 @@ pub(crate) fn status_of(e: AeroError) -> u32
 }
 
 pub(crate) fn refuse(e: AeroError, bits: &mut u64) -> u32
-    ensures { (result ≡ statusOf e) × (bits.new ≡ to_bits binary64 (refused_value e)) }
+    ensures { (result ≡ status_of e) × (bits.new ≡ to_bits binary64 (refused_value e)) }
 {
     *bits = elementary::to_bits(e.value());
     status_of(e)
 }
 
 pub(crate) fn hand_out(c: Coefficient, bits: &mut u64) -> u32
-    ensures { (result ≡ answerStatus c) × (bits.new ≡ answerBits c) }
+    ensures { (result ≡ answer_status c) × (bits.new ≡ answer_bits c) }
 {
     match c {
         Coefficient::Value(v) => {

@@ -4,7 +4,7 @@ ghost use Rattle.aero_error.specs.Checks.{dimension};
 ghost use Rattle.aero_error.specs.Refusals.{code_of_quantity};
 ghost use Rattle.nose_drag.specs.Curves.{takes_cone_formula};
 ghost use Rattle.shapes.specs.Numbers.{shape_of};
-ghost use Rattle.cobalnis.specs.Answers.{no_such, formulaOf, formulaStatus, formulaBits, dimensionStatus, dimensionBits};
+ghost use Rattle.cobalnis.specs.Answers.{no_such, formula_of, formula_status, formula_bits, dimension_status, dimension_bits};
 
 use crate::answers::{NO_SUCH, hand_out, tested};
 use aero_error::{Coefficient, Quantity};
@@ -18,7 +18,7 @@ enum Formula {
 }
 
 fn formula_of(which: u32, a: f64, b: f64, c: f64, d: f64, e: f64) -> Formula
-    ensures { result ≡ formulaOf which a b c d e }
+    ensures { result ≡ formula_of which a b c d e }
 {
     match which {
         0 => Formula::Is(Coefficient::Value(elementary::sqrt(a))),
@@ -58,7 +58,7 @@ pub extern "C" fn cobalnis_formula(
     e: f64,
     bits: &mut u64,
 ) -> u32
-    ensures { (result ≡ formulaStatus (formulaOf which a b c d e)) × (bits.new ≡ formulaBits (formulaOf which a b c d e) bits.old) }
+    ensures { (result ≡ formula_status (formula_of which a b c d e)) × (bits.new ≡ formula_bits (formula_of which a b c d e) bits.old) }
 {
     match formula_of(which, a, b, c, d, e) {
         Formula::Is(answer) => hand_out(answer, bits),
@@ -104,7 +104,7 @@ pub extern "C" fn cobalnis_check_dimension(
     allow_zero: bool,
     bits: &mut u64,
 ) -> u32
-    ensures { (result ≡ dimensionStatus what (dimension value allow_zero)) × (bits.new ≡ dimensionBits what (dimension value allow_zero) value bits.old) }
+    ensures { (result ≡ dimension_status what (dimension value allow_zero)) × (bits.new ≡ dimension_bits what (dimension value allow_zero) value bits.old) }
 {
     if what == 0 {
         return NO_SUCH;

@@ -6,7 +6,7 @@ ghost use Rattle.aero_error.specs.Checks.{◌then◌, unless};
 ghost use Rattle.aero_error.specs.declared.Rule.TheVariants.{TooFewCells};
 ghost use Rattle.drag.specs.Friction.{machs_test};
 ghost use Rattle.cobalnis.specs.Words.{spread};
-ghost use Rattle.cobalnis.specs.Answers.{no_such, isNose, pointStatus, pointWords, lookupWords, WalkDone, curveOf, coefficientBits, coefficientWord, about, ReadAt, CurveAnswered};
+ghost use Rattle.cobalnis.specs.Answers.{no_such, is_nose, point_status, point_words, lookup_words, WalkDone, curve_from, coefficient_bits, coefficient_word, about, ReadAt, CurveAnswered};
 
 use crate::answers::{NO_SUCH, refuse, status_of};
 use aero_error::{AeroError, Check, Coefficient, Rule};
@@ -20,7 +20,7 @@ use walk::Walked;
 // The Mach and the drag of a nose's point.
 #[unsafe(no_mangle)]
 pub extern "C" fn cobalnis_nose_point(nose: u32, place: usize, out: &mut [u64; 2]) -> u32
-    ensures { (result ≡ pointStatus nose place) × (out.new ≡ pointWords nose place out.old) }
+    ensures { (result ≡ point_status nose place) × (out.new ≡ point_words nose place out.old) }
 {
     if nose <= 8 {
         let range = StoneyNose::of_number(nose as u64).points();
@@ -40,7 +40,7 @@ pub extern "C" fn cobalnis_nose_point(nose: u32, place: usize, out: &mut [u64; 2
 // A table's value and slope at a Mach, and its first Mach.
 #[unsafe(no_mangle)]
 pub extern "C" fn cobalnis_nose_lookup(nose: u32, mach: f64, out: &mut [u64; 3]) -> u32
-    ensures { (result ≡ cond (isNose nose) 0 no_such) × (out.new ≡ lookupWords nose mach out.old) }
+    ensures { (result ≡ cond (is_nose nose) 0 no_such) × (out.new ≡ lookup_words nose mach out.old) }
 {
     if nose <= 8 {
         let known = StoneyNose::of_number(nose as u64);
@@ -64,7 +64,7 @@ pub extern "C" fn cobalnis_nose_walk(
     compared: &mut usize,
     bits: &mut u64,
 ) -> u32
-    ensures { WalkDone (isNose nose) nose machs.now answers.old compared.old bits.old result answers.new compared.new bits.new }
+    ensures { WalkDone (is_nose nose) nose machs.now answers.old compared.old bits.old result answers.new compared.new bits.new }
 {
     if nose <= 8 {
         return match walk::values(StoneyNose::of_number(nose as u64), machs, answers) {
@@ -82,7 +82,7 @@ pub extern "C" fn cobalnis_nose_walk(
 // ---- curves
 
 fn curve_of(shape: u64, parameter: f64, fineness_ratio: f64, joint_angle_rad: f64) -> Curve
-    ensures { result ≡ curveOf shape parameter fineness_ratio joint_angle_rad }
+    ensures { result ≡ curve_from shape parameter fineness_ratio joint_angle_rad }
 {
     if shape == 6 {
         return Curve::Built(PressureDragCurve::step());
@@ -95,7 +95,7 @@ fn curve_of(shape: u64, parameter: f64, fineness_ratio: f64, joint_angle_rad: f6
 }
 
 fn coefficient_bits(curve: PressureDragCurve, mach: f64) -> u64
-    ensures { result ≡ coefficientBits curve mach }
+    ensures { result ≡ coefficient_bits curve mach }
 {
     match curve.coefficient(mach) {
         Coefficient::Value(v) => elementary::to_bits(v),
@@ -105,7 +105,7 @@ fn coefficient_bits(curve: PressureDragCurve, mach: f64) -> u64
 
 fn fill(curve: PressureDragCurve, machs: &[f64], out: &mut [u64])
     requires { length machs.now ≤ length out.old }
-    ensures { out.new ≡ sets out.old 0 (spread (coefficientWord curve) machs.now) }
+    ensures { out.new ≡ sets out.old 0 (spread (coefficient_word curve) machs.now) }
 {
     let mut i = 0usize;
     while i < machs.len() {
@@ -156,7 +156,7 @@ pub extern "C" fn cobalnis_curve(
     out: &mut [u64],
     said: &mut [u64; 3],
 ) -> u32
-    ensures { CurveAnswered (ltb 6 shape) (curveOf shape parameter fineness_ratio joint_angle_rad) machs.now out.old said.old result out.new said.new }
+    ensures { CurveAnswered (ltb 6 shape) (curve_from shape parameter fineness_ratio joint_angle_rad) machs.now out.old said.old result out.new said.new }
 {
     if 6 < shape {
         return NO_SUCH;

@@ -2,7 +2,7 @@
 ghost use Rattle.std.specs.Prelude.{◌≡◌};
 ghost use Rattle.drag_sheet.specs.Calls.{insert as insert_call, remove as remove_call, replace as replace_call, set_column as column_call, ignite as ignite_call, burnout as burnout_call};
 ghost use Rattle.cobalnis.specs.Words.{part_of};
-ghost use Rattle.cobalnis.specs.Answers.{Shown, CallDone, OpenShown, sheetKnown, partKnown};
+ghost use Rattle.cobalnis.specs.Answers.{Shown, CallDone, OpenShown, sheet_known, part_known};
 
 use crate::answers::refuse;
 use crate::words;
@@ -28,7 +28,7 @@ fn show(answer: Answer, words: &mut [u64; SHEET_WORDS], bits: &mut u64) -> u32
 
 // Whether the part given and each part of the sheet has a shape's number up to 5.
 fn part_known(part: &[u64; PART_WORDS], words: &[u64; SHEET_WORDS]) -> bool
-    ensures { result ≡ partKnown part.now words.now }
+    ensures { result ≡ part_known part.now words.now }
 {
     if 5 < part[0] {
         return false;
@@ -57,7 +57,7 @@ pub extern "C" fn cobalnis_insert(
     cells: &mut [f64],
     bits: &mut u64,
 ) -> u32
-    ensures { CallDone (partKnown part.now words.old) (insert_call place (part_of part.now)) words.old cells.old result words.new bits.new cells.new }
+    ensures { CallDone (part_known part.now words.old) (insert_call place (part_of part.now)) words.old cells.old result words.new bits.new cells.new }
 {
     if part_known(part, words) {
         let sheet = words::sheet_of(words);
@@ -75,7 +75,7 @@ pub extern "C" fn cobalnis_replace(
     cells: &mut [f64],
     bits: &mut u64,
 ) -> u32
-    ensures { CallDone (partKnown part.now words.old) (replace_call place (part_of part.now)) words.old cells.old result words.new bits.new cells.new }
+    ensures { CallDone (part_known part.now words.old) (replace_call place (part_of part.now)) words.old cells.old result words.new bits.new cells.new }
 {
     if part_known(part, words) {
         let sheet = words::sheet_of(words);
@@ -92,7 +92,7 @@ pub extern "C" fn cobalnis_remove(
     cells: &mut [f64],
     bits: &mut u64,
 ) -> u32
-    ensures { CallDone (sheetKnown words.old) (remove_call place) words.old cells.old result words.new bits.new cells.new }
+    ensures { CallDone (sheet_known words.old) (remove_call place) words.old cells.old result words.new bits.new cells.new }
 {
     if words::shapes_known(words) {
         let answer = drag_sheet::remove(words::sheet_of(words), place, cells);
@@ -110,7 +110,7 @@ pub extern "C" fn cobalnis_set_column(
     cells: &mut [f64],
     bits: &mut u64,
 ) -> u32
-    ensures { CallDone (sheetKnown words.old) (column_call column mach reynolds) words.old cells.old result words.new bits.new cells.new }
+    ensures { CallDone (sheet_known words.old) (column_call column mach reynolds) words.old cells.old result words.new bits.new cells.new }
 {
     if words::shapes_known(words) {
         let sheet = words::sheet_of(words);
@@ -127,7 +127,7 @@ pub extern "C" fn cobalnis_ignite(
     cells: &mut [f64],
     bits: &mut u64,
 ) -> u32
-    ensures { CallDone (sheetKnown words.old) (ignite_call nozzle_diameter) words.old cells.old result words.new bits.new cells.new }
+    ensures { CallDone (sheet_known words.old) (ignite_call nozzle_diameter) words.old cells.old result words.new bits.new cells.new }
 {
     if words::shapes_known(words) {
         let answer = drag_sheet::ignite(words::sheet_of(words), nozzle_diameter, cells);
@@ -142,7 +142,7 @@ pub extern "C" fn cobalnis_burnout(
     cells: &mut [f64],
     bits: &mut u64,
 ) -> u32
-    ensures { CallDone (sheetKnown words.old) burnout_call words.old cells.old result words.new bits.new cells.new }
+    ensures { CallDone (sheet_known words.old) burnout_call words.old cells.old result words.new bits.new cells.new }
 {
     if words::shapes_known(words) {
         let answer = drag_sheet::burnout(words::sheet_of(words), cells);

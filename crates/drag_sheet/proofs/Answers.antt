@@ -27,19 +27,19 @@ use Rattle.drag_sheet.specs.Edits.{Rewritten}
 
 -- ---- what passed tests show
 
-pub settings-facts : (s : Settings) (cells : ℕ) → settings_test s cells ≡ Passed → (s.count ≤ most_columns) × (needed s.count ≤ cells)
+pub settings_facts : (s : Settings) (cells : ℕ) → settings_test s cells ≡ Passed → (s.count ≤ most_columns) × (needed s.count ≤ cells)
 unfolding settings_test
-settings-facts s cells e =
+settings_facts s cells e =
     let a = both_passed (unless (ltb most_columns s.count) TooManyColumns) _ e in
     let b = both_passed (body_test s) _ a.second in
     let d = both_passed (columns_test s) _ b.second in
     (ltb-false most_columns s.count (unless_passed _ TooManyColumns a.first), ltb-false cells (needed s.count) (unless_passed _ TooFewCells d.second))
 
-pub sheet-fits : (sheet : Sheet) (cells : ℕ) → sheet_test (contents_of sheet) cells sheet.design.count ≡ Passed → Fits sheet cells
+pub sheet_fits : (sheet : Sheet) (cells : ℕ) → sheet_test (contents_of sheet) cells sheet.design.count ≡ Passed → Fits sheet cells
 unfolding sheet_test
-sheet-fits sheet cells e =
+sheet_fits sheet cells e =
     let a = both_passed (settings_test sheet.settings cells) _ e in
-    let f = settings-facts sheet.settings cells a.first in
+    let f = settings_facts sheet.settings cells a.first in
     let n = both_passed (nozzle_test sheet.nozzle_diameter) _ a.second in
     let b = both_passed (unless (ltb most_parts sheet.design.count) DesignFull) _ n.second in
     record { columns = f.0; parts = ltb-false most_parts sheet.design.count (unless_passed _ DesignFull b.first); room = f.1 }
@@ -51,7 +51,7 @@ pub record Facts (call : Call) (sheet : Sheet) (cells : ℕ) : Type 0 where
 pub call_facts : (call : Call) (sheet : Sheet) (cells : ℕ) → call_test call sheet cells ≡ Passed → Facts call sheet cells
 call_facts call sheet cells e =
     let a = both_passed (sheet_test (contents_of sheet) cells sheet.design.count) _ e in
-    record { fits = sheet-fits sheet cells a.first; arguments = a.second }
+    record { fits = sheet_fits sheet cells a.first; arguments = a.second }
 
 -- what a call's arguments are then
 abbrev pub Bounds : Call → Settings → ℕ → Type 0
@@ -75,31 +75,31 @@ bounds burnout s count e = tt
 
 -- ---- the contract
 
-pub called-refused : (call : Call) (sheet : Sheet) (xs : List Float) (r : Check) (e : AeroError) → r ≡ call_test call sheet (length xs) → r ≡ Failed e → Called call sheet xs (record { outcome = r; sheet = sheet }) xs
-called-refused call sheet xs r e h f = let t : call_test call sheet (length xs) ≡ Failed e = sym h ∙ f in record { answer = rw (t, f); left = rw t }
+pub called_refused : (call : Call) (sheet : Sheet) (xs : List Float) (r : Check) (e : AeroError) → r ≡ call_test call sheet (length xs) → r ≡ Failed e → Called call sheet xs (record { outcome = r; sheet = sheet }) xs
+called_refused call sheet xs r e h f = let t : call_test call sheet (length xs) ≡ Failed e = sym h ∙ f in record { answer = rw (t, f); left = rw t }
 
 pub called : (call : Call) (sheet : Sheet) (xs : List Float) (r : Answer) (ys : List Float) (test : Check) (new : Sheet) → call_test call sheet (length xs) ≡ Passed → test ≡ tries call (after call sheet)
     → new ≡ sheet_with (after call sheet) sheet → r ≡ answered test sheet new → ys ≡ chosen test xs (overwritten (scope call (after call sheet)) (after call sheet) xs) → Called call sheet xs r ys
 called call sheet xs r ys test new p t n a l = record { answer = a ∙ rw (n, p, t); left = l ∙ rw (p, t) }
 
 -- the sheet that is left has the contents that are left
-pub contents-with : (c : Contents) (sheet : Sheet) → contents_of (sheet_with c sheet) ≡ c
-contents-with c sheet = ap (λ ps. record { settings = c.settings; parts = ps; nozzle = c.nozzle }) (take_at c.parts (drop (length c.parts) sheet.design.parts) (length c.parts) refl)
+pub contents_with : (c : Contents) (sheet : Sheet) → contents_of (sheet_with c sheet) ≡ c
+contents_with c sheet = ap (λ ps. record { settings = c.settings; parts = ps; nozzle = c.nozzle }) (take_at c.parts (drop (length c.parts) sheet.design.parts) (length c.parts) refl)
 
 -- all rows written
-pub called-whole : (call : Call) (sheet left : Sheet) (xs : List Float) (r : Answer) (ys : List Float) → call_test call sheet (length xs) ≡ Passed → left ≡ sheet_with (after call sheet) sheet
+pub called_whole : (call : Call) (sheet left : Sheet) (xs : List Float) (r : Answer) (ys : List Float) → call_test call sheet (length xs) ≡ Passed → left ≡ sheet_with (after call sheet) sheet
     → trial (after call sheet) ≡ tries call (after call sheet) → scope call (after call sheet) ≡ whole → Rewritten sheet left xs r ys → Called call sheet xs r ys
-called-whole call sheet left xs r ys p n t w f =
-    let e : contents_of left ≡ after call sheet = ap contents_of n ∙ contents-with (after call sheet) sheet in
+called_whole call sheet left xs r ys p n t w f =
+    let e : contents_of left ≡ after call sheet = ap contents_of n ∙ contents_with (after call sheet) sheet in
     called call sheet xs r ys (trial (after call sheet)) left p t n (f.answer ∙ rw e) (f.cells ∙ rw (e, w))
 
-pub opened-refused : (s : Settings) (xs : List Float) (sheet : Sheet) (r : Check) (e : AeroError) → sheet ≡ blank s → r ≡ settings_test s (length xs) → r ≡ Failed e → Opened s xs (record { outcome = r; sheet = sheet }) xs
-opened-refused s xs sheet r e b h f = let t : settings_test s (length xs) ≡ Failed e = sym h ∙ f in record { answer = rw (t, f, b); left = rw t }
+pub opened_refused : (s : Settings) (xs : List Float) (sheet : Sheet) (r : Check) (e : AeroError) → sheet ≡ blank s → r ≡ settings_test s (length xs) → r ≡ Failed e → Opened s xs (record { outcome = r; sheet = sheet }) xs
+opened_refused s xs sheet r e b h f = let t : settings_test s (length xs) ≡ Failed e = sym h ∙ f in record { answer = rw (t, f, b); left = rw t }
 
 -- with no parts nothing is tried
-pub blank-tried : (s : Settings) → trial (contents_of (blank s)) ≡ Passed
+pub blank_tried : (s : Settings) → trial (contents_of (blank s)) ≡ Passed
 unfolding trial
-blank-tried s = up_none _
+blank_tried s = up_none _
 
-pub opened-whole : (s : Settings) (xs : List Float) (sheet : Sheet) (r : Answer) (ys : List Float) → sheet ≡ blank s → settings_test s (length xs) ≡ Passed → Rewritten sheet sheet xs r ys → Opened s xs r ys
-opened-whole s xs sheet r ys b p f = record { answer = f.answer ∙ rw (b, blank-tried s, p); left = f.cells ∙ rw (b, blank-tried s, p) }
+pub opened_whole : (s : Settings) (xs : List Float) (sheet : Sheet) (r : Answer) (ys : List Float) → sheet ≡ blank s → settings_test s (length xs) ≡ Passed → Rewritten sheet sheet xs r ys → Opened s xs r ys
+opened_whole s xs sheet r ys b p f = record { answer = f.answer ∙ rw (b, blank_tried s, p); left = f.cells ∙ rw (b, blank_tried s, p) }

@@ -21,7 +21,7 @@ use Rattle.drag_sheet.specs.Writing.{chosen, rows, totalled, overwritten}
 use Rattle.drag_sheet.specs.declared.Answer.{Answer}
 use Rattle.drag_sheet.specs.Calls.{Call, replace, insert, remove, set_column, insert_at, remove_at, with_column, with_nozzle, row_test_where, replaced_rows, nozzle_rows, body_rows, tries, scope, after, call_test, sheet_with, answered, Called}
 use Rattle.drag_sheet.specs.Edits.{replaced_in, Changed, sheet_with_nozzle, NozzlePut}
-use Rattle.drag_sheet.proofs.Answers.{call_facts, called, contents-with}
+use Rattle.drag_sheet.proofs.Answers.{call_facts, called, contents_with}
 use Rattle.drag_sheet.proofs.Slots.{inserted_long, removed_long}
 
 module _ (c : Contents) (xs : List Float) (place : ℕ) where
@@ -92,7 +92,7 @@ pub called_changed : (sheet left : Sheet) (place : ℕ) (p : Part) (xs : List Fl
 unfolding tries
 called_changed sheet left place p xs test r ys ok n f a =
     let new = after (replace place p) sheet in
-    let e : contents_of left ≡ new = ap contents_of n ∙ contents-with new sheet in
+    let e : contents_of left ≡ new = ap contents_of n ∙ contents_with new sheet in
     let k : left.design.count ≡ length new.parts = ap (λ (s : Sheet). s.design.count) n in
     let t : test ≡ tries (replace place p) new = f.verdict ∙ ap (λ (x : Contents). row_test x place then row_test_where x (place + 1)) e in
     called (replace place p) sheet xs r ys test left ok t n a

@@ -25,7 +25,7 @@ use Rattle.drag_sheet.specs.Calls.{Call, replace, insert, remove, set_column, ig
 use Rattle.drag_sheet.specs.Model.{opened_model, model_decision, moved, model_after, model_decisions}
 use Rattle.drag_sheet.specs.Lists.{Sequence, stop, go, Arrays, Matches, Agrees, FromOpen}
 use Rattle.drag_sheet.proofs.Overwritten.{Holds, holds_build, whole_holds, keeps}
-use Rattle.drag_sheet.proofs.Answers.{settings-facts, call_facts, Bounds, bounds, contents-with, blank-tried}
+use Rattle.drag_sheet.proofs.Answers.{settings_facts, call_facts, Bounds, bounds, contents_with, blank_tried}
 use Rattle.drag_sheet.proofs.Duties.{narrow, call_holds}
 use Rattle.drag_sheet.proofs.CallLaws.{Ended, accepted, refusal, ended, shown, left, parts_few}
 
@@ -88,7 +88,7 @@ kept lent C sheet xs call k p =
     let a = shown call sheet xs k.arrays.slots p in
     let l = left call sheet xs a in
     let new = after call sheet in
-    let same = contents-with new sheet in
+    let same = contents_with new sheet in
     let few = parts_few call (contents_of sheet) a.within a.few in
     let w = k.width in
     record {
@@ -108,7 +108,7 @@ step lent C sheet xs call r ys k c = by (ended call sheet xs r ys c)
   where
     by : Ended call sheet xs r ys
         → Kept lent C r.sheet ys × (contents_of r.sheet ≡ moved (length lent) call (contents_of sheet)) × (r.outcome ≡ model_decision (length lent) call (contents_of sheet))
-    by (accepted p a l) = rw (sym (same_decision lent C sheet xs call k), p, a, l) (kept lent C sheet xs call k p, contents-with (after call sheet) sheet, refl)
+    by (accepted p a l) = rw (sym (same_decision lent C sheet xs call k), p, a, l) (kept lent C sheet xs call k p, contents_with (after call sheet) sheet, refl)
     by (refusal e p a l) = rw (sym (same_decision lent C sheet xs call k), p, a, l) (k, refl, refl)
 
 -- ---- a list of calls
@@ -142,14 +142,14 @@ opens : (s : Settings) (xs : List Float) (r : Answer) (ys : List Float) → leng
     → Opened s xs r ys → r.outcome ≡ Passed → Kept xs s.count r.sheet ys × (r.sheet ≡ blank s)
 opens s xs r ys m n o a =
     let p = sym (outcome_of s xs r ys o) ∙ a in
-    let f = settings-facts s (length xs) p in
+    let f = settings_facts s (length xs) p in
     let c = contents_of (blank s) in
     let e : r ≡ record { outcome = Passed; sheet = blank s } = o.answer ∙ rw p in
     let l : ys ≡ overwritten whole c xs = o.left ∙ rw p in
     let g = keeps c xs f.1 whole tt in
     let k : Kept xs s.count (blank s) (overwritten whole c xs) = record {
       holds = whole_holds c xs f.1;
-      tried = blank-tried s;
+      tried = blank_tried s;
       width = refl;
       arrays = record { machs = m; reynolds = n; slots = refl };
       few = omega arith;

@@ -14,7 +14,7 @@ use Rattle.nose_drag.specs.declared.curve.PressureDragCurve.{PressureDragCurve}
 use Rattle.nose_drag.specs.declared.builder.Curve.{Curve}
 use Rattle.nose_drag.specs.declared.builder.Curve.TheVariants.{Built, Refused as NotBuilt}
 use Rattle.nose_drag.specs.Curves.{takes_cone_formula}
-use Rattle.cobalnis.specs.Answers.{statusOf, no_such, formulaOf, formulaStatus, formulaBits, dimensionStatus, dimensionBits, isNose, pointStatus, pointWords, lookupWords, curveOf, coefficientBits, about}
+use Rattle.cobalnis.specs.Answers.{status_of, no_such, formula_of, formula_status, formula_bits, dimension_status, dimension_bits, is_nose, point_status, point_words, lookup_words, curve_from, coefficient_bits, about}
 use Rattle.replay.specs.declared.Counts.{Counts}
 use Rattle.replay.specs.Counts.{counted}
 use Rattle.replay.specs.Words.{word_at, is_line}
@@ -40,14 +40,14 @@ is_answer line answer =
 
 unfoldable pub formula_at : List ℕ → List ℕ
 formula_at line =
-    let formula = formulaOf (named (word_at line 0)) (float_at line 1) (float_at line 2) (float_at line 3) (float_at line 4) (float_at line 5) in
-    formulaStatus formula ∷ formulaBits formula 0 ∷ 0 ∷ 0 ∷ 0 ∷ []
+    let formula = formula_of (named (word_at line 0)) (float_at line 1) (float_at line 2) (float_at line 3) (float_at line 4) (float_at line 5) in
+    formula_status formula ∷ formula_bits formula 0 ∷ 0 ∷ 0 ∷ 0 ∷ []
 
 unfoldable pub dimension_at : List ℕ → List ℕ
 dimension_at line =
     let what = named (word_at line 0) in
     let ok = dimension (float_at line 1) (eqb (word_at line 2) 1) in
-    dimensionStatus what ok ∷ dimensionBits what ok (float_at line 1) 0 ∷ 0 ∷ 0 ∷ 0 ∷ []
+    dimension_status what ok ∷ dimension_bits what ok (float_at line 1) 0 ∷ 0 ∷ 0 ∷ 0 ∷ []
 
 unfoldable pub cone_at : List ℕ → List ℕ
 cone_at line =
@@ -56,28 +56,28 @@ cone_at line =
 unfoldable pub point_at : List ℕ → List ℕ
 point_at line =
     let nose = named (word_at line 0) in
-    let words = pointWords nose (word_at line 1) (0 ∷ 0 ∷ []) in
-    pointStatus nose (word_at line 1) ∷ get_or words 0 0 ∷ get_or words 1 0 ∷ 0 ∷ 0 ∷ []
+    let words = point_words nose (word_at line 1) (0 ∷ 0 ∷ []) in
+    point_status nose (word_at line 1) ∷ get_or words 0 0 ∷ get_or words 1 0 ∷ 0 ∷ 0 ∷ []
 
 unfoldable pub lookup_at : List ℕ → List ℕ
 lookup_at line =
     let nose = named (word_at line 0) in
-    let words = lookupWords nose (float_at line 1) (0 ∷ 0 ∷ 0 ∷ []) in
-    cond (isNose nose) 0 no_such ∷ get_or words 0 0 ∷ get_or words 1 0 ∷ get_or words 2 0 ∷ 0 ∷ []
+    let words = lookup_words nose (float_at line 1) (0 ∷ 0 ∷ 0 ∷ []) in
+    cond (is_nose nose) 0 no_such ∷ get_or words 0 0 ∷ get_or words 1 0 ∷ get_or words 2 0 ∷ 0 ∷ []
 
 -- a curve that is built, at a Mach
 abbrev pub read_answer : Check → PressureDragCurve → Float → List ℕ
-read_answer Passed curve M = 0 ∷ coefficientBits curve M ∷ about 0·0 curve
-read_answer (Failed e) curve M = statusOf e ∷ 0 ∷ about (refused_value e) curve
+read_answer Passed curve M = 0 ∷ coefficient_bits curve M ∷ about 0·0 curve
+read_answer (Failed e) curve M = status_of e ∷ 0 ∷ about (refused_value e) curve
 
 -- a shape's number above 6 names none
 abbrev pub curve_answer : Bool → Curve → Float → List ℕ
 curve_answer true curve M = no_such ∷ 0 ∷ 0 ∷ 0 ∷ 0 ∷ []
-curve_answer false (NotBuilt e) M = statusOf e ∷ 0 ∷ to_bits binary64 (refused_value e) ∷ 0 ∷ 0 ∷ []
+curve_answer false (NotBuilt e) M = status_of e ∷ 0 ∷ to_bits binary64 (refused_value e) ∷ 0 ∷ 0 ∷ []
 curve_answer false (Built curve) M = read_answer (mach_checked M) curve M
 
 unfoldable pub curve_words : ℕ → Float → Float → Float → Float → List ℕ
-curve_words shape parameter fineness angle M = curve_answer (ltb 6 shape) (curveOf shape parameter fineness angle) M
+curve_words shape parameter fineness angle M = curve_answer (ltb 6 shape) (curve_from shape parameter fineness angle) M
 
 unfoldable pub curve_at : List ℕ → List ℕ
 curve_at line = curve_words (word_at line 0) (float_at line 1) (float_at line 2) (float_at line 3) (float_at line 4)

@@ -13,12 +13,12 @@ use Rattle.walk.specs.Tests.{flight_test}
 use Rattle.walk.specs.Walk.{walk_of}
 
 -- the count where the tests have passed, or their refusal
-abbrev pub walkedAs : Check → ℕ → Walked
-walkedAs check compared = after Refused check (Compared compared)
+abbrev pub walked_as : Check → ℕ → Walked
+walked_as check compared = after Refused check (Compared compared)
 
-abbrev pub toldOfWalk : Walked → Option Told
-toldOfWalk (Compared n) = none
-toldOfWalk (Refused e) = some (told_of e)
+abbrev pub told_of_walk : Walked → Option Told
+told_of_walk (Compared n) = none
+told_of_walk (Refused e) = some (told_of e)
 
 -- "the number of times a query was set against a table point"
 abbrev pub count_of : StoneyNose → List Float → ℕ
@@ -30,5 +30,5 @@ values_of nose Ms = map (λ M. (value_and_slope nose M).value) Ms
 
 -- the answer r to the queries Ms, and the answer cells before (xs) and after (ys)
 pub record Answered (nose : StoneyNose) (Ms xs : List Float) (r : Walked) (ys : List Float) : Type 0 where
-  pub answer : r ≡ walkedAs (flight_test Ms (length xs)) (count_of nose Ms)
+  pub answer : r ≡ walked_as (flight_test Ms (length xs)) (count_of nose Ms)
   pub cells : ys ≡ after (λ e. xs) (flight_test Ms (length xs)) (values_of nose Ms ++ drop (length Ms) xs)

@@ -5,7 +5,7 @@ ghost use Rattle.std.specs.Prelude.{◌≡◌, ◌≤◌, length};
 ghost use Rattle.stoney.specs.Stored.{Stored};
 ghost use Rattle.walk.specs.Tests.{given_test, rising_test, most_queries};
 ghost use Rattle.walk.specs.Walk.{read_at, walk_from, walk_of};
-ghost use Rattle.walk.specs.Answers.{walkedAs, Answered};
+ghost use Rattle.walk.specs.Answers.{walked_as, Answered};
 ghost use Rattle.walk.specs.Places.{stand_at, LegMade, WalkMade};
 
 use aero_error::{AeroError, Check, Rule, then, unless};
@@ -139,7 +139,7 @@ fn walk_table(nose: StoneyNose, queries: &[f64], answers: &mut [f64]) -> usize
 
 // The count where the tests have passed, or their refusal.
 fn counted(check: Check, compared: usize) -> Walked
-    ensures { result ≡ walkedAs check compared }
+    ensures { result ≡ walked_as check compared }
 {
     match check {
         Check::Passed => Walked::Compared(compared),

@@ -11,7 +11,7 @@ use Rattle.cards.specs.declared.PartRead.TheVariants.{Read}
 use Rattle.cards.specs.Cards.{part_at}
 use Rattle.drag_sheet.proofs.Verdicts.{never}
 use Rattle.card_run.proofs.Stream.{cards_end, card_refused, part_refused, part_accepted, part_reach, sheet_then, cells_then}
-use Rattle.card_run.proofs.Answers.{refused-call, accepted-call, stopped-at, fits_after}
+use Rattle.card_run.proofs.Answers.{refused_call, accepted_call, stopped_at_lem, fits_after}
 use borrow.Author.Rules.{rules}
 use native.Mathlib.Omega.{arith}
 use lib.ListN.{length}
@@ -48,13 +48,13 @@ returns c =
     let a = b.before.before.before.before.before.args in
     let l = b.before.before.loop in
     let e = c.before.before.e.given.0.0 in
-    stopped-at _ _ _ l.sheet l.cells _ (l.invariant.2 ∙ card_refused a.s.now l.at l.sheet l.cells e b.before.loop-test.true (sym b.read-part.ensures ∙ c.before.before.e.given.1)) c.stopped.ensures (omega (arith, l.invariant.1.parts)) (never refl)
+    stopped_at_lem _ _ _ l.sheet l.cells _ (l.invariant.2 ∙ card_refused a.s.now l.at l.sheet l.cells e b.before.loop-test.true (sym b.read-part.ensures ∙ c.before.before.e.given.1)) c.stopped.ensures (omega (arith, l.invariant.1.parts)) (never refl)
 
 stopped-requires-2 : tie.Need-stopped-requires-2 invariant-loop decreases-loop
 stopped-requires-2 c κs =
     let i = c.before.before.before.before.before.before in
     let l = i.before.before.before.before.before.before.before.loop in
-    let r = refused-call i.insert.ensures _ c.before.outcome.given.1 in
+    let r = refused_call i.insert.ensures _ c.before.outcome.given.1 in
     rw r.1 l.invariant.1.parts
 
 same-length-2 : tie.Need-same-length-2 invariant-loop decreases-loop
@@ -68,9 +68,9 @@ returns-2 c =
     let l = i.before.before.before.before.before.before.before.loop in
     let a = i.before.before.before.before.before.before.before.before.before.before.args in
     let e = c.before.before.outcome.given.0.0 in
-    let r = refused-call i.insert.ensures e c.before.before.outcome.given.1 in
+    let r = refused_call i.insert.ensures e c.before.before.outcome.given.1 in
     let ran = l.invariant.2 ∙ part_refused a.s.now l.at l.sheet l.cells _ _ i.before.before.before.before.before.before.loop-test.true (card-read i) e r.0 in
-    stopped-at _ _ (Failed e) l.sheet i.insert.new.1.1.1.0 _ (ran ∙ ap (stopped (Failed e) l.sheet) (sym r.2)) (c.stopped2.ensures ∙ ap (run_stopped (Failed e)) r.1) (omega (arith, l.invariant.1.parts)) (never refl)
+    stopped_at_lem _ _ (Failed e) l.sheet i.insert.new.1.1.1.0 _ (ran ∙ ap (stopped (Failed e) l.sheet) (sym r.2)) (c.stopped2.ensures ∙ ap (run_stopped (Failed e)) r.1) (omega (arith, l.invariant.1.parts)) (never refl)
 
 loop-less : tie.Need-loop-smaller invariant-loop decreases-loop
 loop-less c =
@@ -86,7 +86,7 @@ loop-again c =
     let a = i.before.before.before.before.before.before.before.before.before.before.args in
     let p = i.before.before.before.part.given.0 in
     let ys = i.insert.new.1.1.1.0 in
-    let r = accepted-call i.insert.ensures c.enum_told.given.1 in
+    let r = accepted_call i.insert.ensures c.enum_told.given.1 in
     let k = i.insert.auto.1.1.1.0 in
     let fits = subst (λ (n : ℕ). Fits (sheet_then l.sheet p.0) n) (sym k) (fits_after l.sheet p.0 (length l.cells) r.0) in
     let ran = l.invariant.2 ∙ part_accepted a.s.now l.at l.sheet l.cells p.0 p.1.0 i.before.before.before.before.before.before.loop-test.true (card-read i) r.0 in
@@ -104,7 +104,7 @@ returns-3 : tie.Need-returns-3 invariant-loop decreases-loop
 returns-3 c =
     let l = c.before.before.loop in
     let a = c.before.before.before.before.before.args in
-    stopped-at _ _ _ l.sheet l.cells _ (l.invariant.2 ∙ cards_end a.s.now l.at l.sheet l.cells c.before.loop-test.false) c.stopped3.ensures (omega (arith, l.invariant.1.parts)) (λ e. l.invariant.1)
+    stopped_at_lem _ _ _ l.sheet l.cells _ (l.invariant.2 ∙ cards_end a.s.now l.at l.sheet l.cells c.before.loop-test.false) c.stopped3.ensures (omega (arith, l.invariant.1.parts)) (λ e. l.invariant.1)
 
 pub run-parts-spec : {M : Type 1} → statement M
 run-parts-spec =

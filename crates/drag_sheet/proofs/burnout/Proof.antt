@@ -3,14 +3,14 @@ use mathlib.Core.Path.{refl, sym, ◌∙◌}
 use lib.ListN.{length, length-map}
 use Rattle.aero_error.specs.CheckLaws.{then_passed}
 use Rattle.drag_sheet.specs.Calls.{burnout, tries}
-use Rattle.drag_sheet.proofs.Answers.{sheet-fits}
+use Rattle.drag_sheet.proofs.Answers.{sheet_fits}
 use Rattle.drag_sheet.proofs.Changed.{called_nozzle}
 use borrow.Author.Rules.{rules}
 use Rattle.drag_sheet.proofs.burnout.Statement.{statement}
 use Rattle.drag_sheet.proofs.burnout.Tie as tie
 
 put-nozzle-requires : tie.Need-put-nozzle-requires
-put-nozzle-requires c κs = let s = c.before.before.before in λ e. sheet-fits s.args.sheet (length s.args.cells.now) (sym c.before.check-sheet.ensures ∙ e)
+put-nozzle-requires c κs = let s = c.before.before.before in λ e. sheet_fits s.args.sheet (length s.args.cells.now) (sym c.before.check-sheet.ensures ∙ e)
 
 returns : tie.Need-returns
 unfolding tries

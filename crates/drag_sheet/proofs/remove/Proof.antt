@@ -4,7 +4,7 @@ use native.Mathlib.Omega.{arith}
 use lib.ListN.{length, length-map}
 use Rattle.sheet_data.specs.Layout.{most_parts}
 use Rattle.drag_sheet.specs.Calls.{remove, tries}
-use Rattle.drag_sheet.proofs.Answers.{Facts, call_facts, bounds, called-refused, called-whole}
+use Rattle.drag_sheet.proofs.Answers.{Facts, call_facts, bounds, called_refused, called_whole}
 use Rattle.drag_sheet.proofs.Changed.{removed_sheet}
 use borrow.Author.Rules.{rules}
 use Rattle.drag_sheet.proofs.remove.Statement.{statement}
@@ -19,7 +19,7 @@ long : (s : tie.Start) → length s.args.sheet.design.parts ≡ most_parts
 long s = simp length-map at s.well-formed.0.1.1.1.0.1.1.1.0.1.0.1
 
 returns : tie.Need-returns
-returns c = let s = c.before.before.before.before in called-refused (remove s.args.place) s.args.sheet s.args.cells.now _ _ c.before.before.check-remove.ensures c.enum-told2.given.1
+returns c = let s = c.before.before.before.before in called_refused (remove s.args.place) s.args.sheet s.args.cells.now _ _ c.before.before.check-remove.ensures c.enum-told2.given.1
 
 removed-requires : tie.Need-removed-requires
 removed-requires c κs = let s = c.before.before.before.before.before.before.before in let f = facts c.before.before.before in let b = bounds (remove s.args.place) s.args.sheet.settings s.args.sheet.design.count f.arguments in (b, f.fits.parts)
@@ -38,7 +38,7 @@ returns-2 c =
     let e = c.before.before.before.before.before.before.before.before in
     let f = facts e in
     let b = bounds (remove s.args.place) s.args.sheet.settings s.args.sheet.design.count f.arguments in
-    called-whole (remove s.args.place) s.args.sheet _ s.args.cells.now _ _ (sym e.before.before.check-remove.ensures ∙ e.enum_told.given.1)
+    called_whole (remove s.args.place) s.args.sheet _ s.args.cells.now _ _ (sym e.before.before.check-remove.ensures ∙ e.enum_told.given.1)
     (removed_sheet s.args.sheet (long s) f.fits.parts s.args.place _ b c.before.before.before.before.removed.ensures) refl refl c.before.before.rewrite.ensures
 
 pub remove-spec : {M : Type 1} → statement M

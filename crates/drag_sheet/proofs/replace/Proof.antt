@@ -4,7 +4,7 @@ use native.Mathlib.Omega.{arith}
 use lib.ListN.{length, length-map}
 use Rattle.sheet_data.specs.declared.Design.{Design}
 use Rattle.drag_sheet.specs.Calls.{replace}
-use Rattle.drag_sheet.proofs.Answers.{Facts, call_facts, bounds, called-refused}
+use Rattle.drag_sheet.proofs.Answers.{Facts, call_facts, bounds, called_refused}
 use Rattle.drag_sheet.proofs.Changed.{replaced_sheet, called_changed}
 use borrow.Author.Rules.{rules}
 use Rattle.drag_sheet.proofs.replace.Statement.{statement}
@@ -15,7 +15,7 @@ facts : (c : tie.After-enum-told) → let s = c.before.before.before.before in F
 facts c = let s = c.before.before.before.before in call_facts (replace s.args.place s.args.part) s.args.sheet (length s.args.cells.now) (sym c.before.before.check-replace.ensures ∙ c.enum_told.given.1)
 
 returns : tie.Need-returns
-returns c = let s = c.before.before.before.before in called-refused (replace s.args.place s.args.part) s.args.sheet s.args.cells.now _ _ c.before.before.check-replace.ensures c.enum-told2.given.1
+returns c = let s = c.before.before.before.before in called_refused (replace s.args.place s.args.part) s.args.sheet s.args.cells.now _ _ c.before.before.check-replace.ensures c.enum-told2.given.1
 
 replaced-in-requires : tie.Need-replaced-in-requires
 replaced-in-requires c κs =

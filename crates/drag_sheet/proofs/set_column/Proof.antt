@@ -14,7 +14,7 @@ use Rattle.drag_sheet.specs.Writing.{overwritten, Filled}
 use Rattle.drag_sheet.specs.Calls.{set_column, tries, column_trial, after}
 use Rattle.drag_sheet.proofs.Verdicts.{filled_same}
 use Rattle.drag_sheet.proofs.Taken.{prefix_long, zeros}
-use Rattle.drag_sheet.proofs.Answers.{Facts, call_facts, bounds, called-refused, called}
+use Rattle.drag_sheet.proofs.Answers.{Facts, call_facts, bounds, called_refused, called}
 use Rattle.drag_sheet.proofs.Changed.{column_sheet}
 use Rattle.drag_sheet.proofs.OneColumn.{column_tried, column_built}
 use borrow.Author.Rules.{rules}
@@ -50,7 +50,7 @@ built c =
     c.build-rows.ensures
 
 returns : tie.Need-returns
-returns c = let s = c.before.before.before.before in called-refused (set_column s.args.column s.args.mach s.args.reynolds) s.args.sheet s.args.cells.now _ _ c.before.before.check-set-column.ensures c.enum-told2.given.1
+returns c = let s = c.before.before.before.before in called_refused (set_column s.args.column s.args.mach s.args.reynolds) s.args.sheet s.args.cells.now _ _ c.before.before.check-set-column.ensures c.enum-told2.given.1
 
 build-rows-requires : tie.Need-build-rows-requires
 build-rows-requires c κs =

@@ -15,7 +15,7 @@ use Rattle.nose_drag.specs.declared.curve.PressureDragCurve.{PressureDragCurve}
 use Rattle.nose_drag.specs.declared.builder.Curve.{Curve}
 use Rattle.nose_drag.specs.declared.builder.Curve.TheVariants.{Built, Refused as NotBuilt}
 use Rattle.cobalnis.specs.Words.{spread}
-use Rattle.cobalnis.specs.Answers.{curveOf, ReadAt, CurveAnswered}
+use Rattle.cobalnis.specs.Answers.{curve_from, ReadAt, CurveAnswered}
 use Rattle.formula_vectors.specs.Lines.{read_answer, curve_answer, curve_words, curve_at}
 use Rattle.formula_vectors.proofs.curve.Statement.{statement}
 use Rattle.formula_vectors.proofs.curve.Tie as tie
@@ -38,10 +38,10 @@ answer-words false (NotBuilt e) M r ys said (a, b, d) = rw (a, b, d)
 answer-words false (Built curve) M r ys said h = read-words (mach_checked M) curve M r ys said h
 
 curve-words : (shape : ℕ) (parameter fineness angle M : Float) (r : ℕ) (ys said : List ℕ)
-    → CurveAnswered (ltb 6 shape) (curveOf shape parameter fineness angle) (M ∷ []) (0 ∷ []) (0 ∷ 0 ∷ 0 ∷ []) r ys said
+    → CurveAnswered (ltb 6 shape) (curve_from shape parameter fineness angle) (M ∷ []) (0 ∷ []) (0 ∷ 0 ∷ 0 ∷ []) r ys said
     → five r ys said ≡ curve_words shape parameter fineness angle M
 unfolding curve_words
-curve-words shape parameter fineness angle M r ys said h = answer-words (ltb 6 shape) (curveOf shape parameter fineness angle) M r ys said h
+curve-words shape parameter fineness angle M r ys said h = answer-words (ltb 6 shape) (curve_from shape parameter fineness angle) M r ys said h
 
 pub curve-spec : {M : Type 1} → statement M
 unfolding curve_at

@@ -20,7 +20,7 @@ use Rattle.stoney.specs.declared.StoneyNose.{StoneyNose}
 use Rattle.walk.specs.declared.Walked.{Walked}
 use Rattle.walk.specs.Tests.{most_queries, room_test, given_test, rising_test, flight_test}
 use Rattle.walk.specs.Walk.{walk_of}
-use Rattle.walk.specs.Answers.{walkedAs, count_of, values_of, Answered}
+use Rattle.walk.specs.Answers.{walked_as, count_of, values_of, Answered}
 use Rattle.walk.proofs.SingleLookup.{agree}
 use Rattle.walk.proofs.values.Statement.{statement}
 use Rattle.walk.proofs.values.Tie as tie
@@ -40,10 +40,10 @@ front : (vs : List Float) (n : ℕ) (xs : List Float) → length vs ≡ n → n 
 front vs n xs e h = let k : 0 + length vs ≡ n = omega arith in sets-eq vs xs 0 (omega arith) ∙ ap (λ (m : ℕ). vs ++ drop m xs) k
 
 module _ (nose : StoneyNose) (Ms xs : List Float) (check : Check) (is : check ≡ flight_test Ms (length xs)) where
-  refused : (r : Walked) (e : AeroError) → check ≡ Failed e → r ≡ walkedAs check 0 → Answered nose Ms xs r xs
+  refused : (r : Walked) (e : AeroError) → check ≡ Failed e → r ≡ walked_as check 0 → Answered nose Ms xs r xs
   refused r e failed answer = record { answer = rw (← is, failed) (answer ∙ rw failed); cells = rw (← is, failed) }
 
-  accepted : (r : Walked) (n : ℕ) (ys : List Float) → check ≡ Passed → r ≡ walkedAs check n → n ≡ count_of nose Ms → ys ≡ sets xs 0 (walk_of nose Ms).values → Answered nose Ms xs r ys
+  accepted : (r : Walked) (n : ℕ) (ys : List Float) → check ≡ Passed → r ≡ walked_as check n → n ≡ count_of nose Ms → ys ≡ sets xs 0 (walk_of nose Ms).values → Answered nose Ms xs r ys
   accepted r n ys passed answer count cells =
       record {
         answer = rw (← is, passed, ← count) (answer ∙ rw passed);

@@ -2,13 +2,13 @@
 use mathlib.Core.Path.{◌≡◌, sym, ap}
 use Rattle.elementary.specs.declared.class.FloatClass.{FloatClass}
 use Rattle.elementary.specs.declared.class.FloatClass.TheVariants.{Zero, Subnormal, Normal, Infinity, NaN}
-use Rattle.cobalnis.specs.Answers.{classNumber, ClassShown}
+use Rattle.cobalnis.specs.Answers.{class_number, ClassShown}
 use borrow.Author.Rules.{rules}
 use Rattle.cobalnis.proofs.floats.cobalnis_classify.Statement.{statement}
 use Rattle.cobalnis.proofs.floats.cobalnis_classify.Tie as tie
 
-shown : (c : tie.After-classify) (k : FloatClass) → c.classify.result ≡ k → ClassShown c.before.args.bits (classNumber k)
-shown c k e = record { class = c.classify.result; holds = c.classify.ensures; shown = ap classNumber (sym e) }
+shown : (c : tie.After-classify) (k : FloatClass) → c.classify.result ≡ k → ClassShown c.before.args.bits (class_number k)
+shown c k e = record { class = c.classify.result; holds = c.classify.ensures; shown = ap class_number (sym e) }
 
 pub cobalnis-classify-spec : {M : Type 1} → statement M
 cobalnis-classify-spec =

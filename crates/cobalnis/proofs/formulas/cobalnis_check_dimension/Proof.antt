@@ -2,7 +2,7 @@
 use mathlib.Core.Path.{ap, ◌∙◌}
 use borrow.Author.Tests.{le-leb, lt-leb, eq-eqb, ne_eqb}
 use Rattle.aero_error.specs.Checks.{dimension}
-use Rattle.cobalnis.specs.Answers.{answerStatus, answerBits, tested}
+use Rattle.cobalnis.specs.Answers.{answer_status, answer_bits, tested}
 use Rattle.cobalnis.proofs.Tables.{required_status, required_bits}
 use borrow.Author.Rules.{rules}
 use Rattle.cobalnis.proofs.formulas.cobalnis_check_dimension.Statement.{statement}
@@ -19,8 +19,8 @@ returns-2 c =
     let n = ne_eqb _ _ c.before.before.before.before.before.before.if1.false in
     let k = le-leb _ _ c.before.before.before.before.before.if2.true in
     let t = c.before.before.tested.ensures ∙ ap tested c.before.before.before.check-dimension.ensures in (
-      simp (n, k) (c.hand-out.ensures.0 ∙ ap answerStatus t ∙ required_status ok q.result s.args.value s.args.what q.ensures),
-      simp (n, k) (c.hand-out.ensures.1 ∙ ap answerBits t ∙ required_bits ok q.result s.args.value),
+      simp (n, k) (c.hand-out.ensures.0 ∙ ap answer_status t ∙ required_status ok q.result s.args.value s.args.what q.ensures),
+      simp (n, k) (c.hand-out.ensures.1 ∙ ap answer_bits t ∙ required_bits ok q.result s.args.value),
     )
 
 returns-3 : tie.Need-returns-3

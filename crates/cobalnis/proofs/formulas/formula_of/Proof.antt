@@ -2,7 +2,7 @@
 use mathlib.Core.Path.{sym}
 use native.Mathlib.Omega.{arith}
 use lib.ListN.{get_or-eq_default}
-use Rattle.cobalnis.specs.Answers.{formulas, formulaOf}
+use Rattle.cobalnis.specs.Answers.{formulas, formula_of}
 use Rattle.shapes.specs.Numbers.{third}
 use Rattle.elementary.proofs.Cases.{above}
 use borrow.Author.Rules.{rules}
@@ -10,7 +10,7 @@ use Rattle.cobalnis.proofs.formulas.formula_of.Statement.{statement}
 use Rattle.cobalnis.proofs.formulas.formula_of.Tie as tie
 
 pub formula-of-spec : {M : Type 1} → statement M
-unfolding formulaOf
+unfolding formula_of
 formula-of-spec =
     tie.close
     (tie.spec
