@@ -7,7 +7,7 @@ ghost use Rattle.aero_error.specs.Checks.{required, dimension, ◌then◌, unles
 ghost use Rattle.aero_error.specs.declared.Coefficient.TheVariants.{Value};
 
 // What a refused value is: the Rust's `what`, in the order of its codes 1 to 22 (docs/REFERENCE.md, Codes).
-#[derive(Drop)]
+#[derive(Clone, Copy)]
 pub enum Quantity {
     Mach,
     Fineness,
@@ -34,7 +34,7 @@ pub enum Quantity {
 }
 
 // A rule that a refusal other than 1 names, in the order of the numbers.
-#[derive(Drop)]
+#[derive(Clone, Copy)]
 pub enum Rule {
     OgiveRadiusRatio,
     HaackAboveThird,
@@ -50,21 +50,21 @@ pub enum Rule {
 }
 
 // A refusal: a value outside its domain, which is refusal 1, or a broken rule.
-#[derive(Drop)]
+#[derive(Clone, Copy)]
 pub enum AeroError {
     Domain { what: Quantity, value: f64 },
     Broken(Rule),
 }
 
 // The answer of a test, and of a call on a sheet: it passed, or its refusal.
-#[derive(Drop)]
+#[derive(Clone, Copy)]
 pub enum Check {
     Passed,
     Failed(AeroError),
 }
 
 // The answer of a formula.
-#[derive(Drop)]
+#[derive(Clone, Copy)]
 pub enum Coefficient {
     Value(f64),
     Refused(AeroError),

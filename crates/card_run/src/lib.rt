@@ -17,7 +17,7 @@ pub const STREAM_BYTES: usize = SETTINGS_BYTES + (PARTS + 1) * PART_BYTES;
 
 // A run's answer: what it came to, the card it stopped at, counted from 0, and the sheet as it is
 // then. An accepted run stops past its last card; no bytes count as a settings card.
-#[derive(Drop)]
+#[derive(Clone, Copy)]
 pub struct Run {
     pub outcome: Check,
     pub card: usize,

@@ -15,21 +15,21 @@ pub(crate) const NUMBER_BYTES: usize = 8;
 pub(crate) const PAIR_BYTES: usize = 2 * NUMBER_BYTES;
 
 // A byte field, with the position after it.
-#[derive(Drop)]
+#[derive(Clone, Copy)]
 pub(crate) enum ByteRead {
     Byte { value: u8, next: usize },
     Refused(AeroError),
 }
 
 // A float field, with the position after it.
-#[derive(Drop)]
+#[derive(Clone, Copy)]
 pub(crate) enum NumberRead {
     Number { value: f64, next: usize },
     Refused(AeroError),
 }
 
 // Two float fields, with the position after them.
-#[derive(Drop)]
+#[derive(Clone, Copy)]
 pub(crate) enum PairRead {
     Pair {
         first: f64,

@@ -21,28 +21,28 @@ pub const SETTINGS_BYTES: usize = 1 + 3 * NUMBER_BYTES + 1 + COLUMNS * PAIR_BYTE
 pub const PART_BYTES: usize = 1 + 1 + 6 * NUMBER_BYTES;
 
 // The shape of a part, with the position after its byte and its parameter.
-#[derive(Drop)]
+#[derive(Clone, Copy)]
 pub enum ShapeRead {
     Shape { shape: NoseShape, next: usize },
     Refused(AeroError),
 }
 
 // The roughness of a part, with the position after it.
-#[derive(Drop)]
+#[derive(Clone, Copy)]
 pub enum RoughnessRead {
     Roughness { value: PartRoughness, next: usize },
     Refused(AeroError),
 }
 
 // A part card, with the position after it.
-#[derive(Drop)]
+#[derive(Clone, Copy)]
 pub enum PartRead {
     Read { part: Part, next: usize },
     Refused(AeroError),
 }
 
 // A settings card, with the position after it. Refused, the settings say nothing.
-#[derive(Drop)]
+#[derive(Clone, Copy)]
 pub struct SettingsRead {
     pub outcome: Check,
     pub settings: Settings,

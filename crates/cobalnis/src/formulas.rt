@@ -11,7 +11,7 @@ use aero_error::{Coefficient, Quantity};
 use shapes::NoseShape;
 
 // What a formula's number names.
-#[derive(Drop)]
+#[derive(Clone, Copy)]
 enum Formula {
     Is(Coefficient),
     Unknown,

@@ -55,7 +55,7 @@ pub fn check_flow(mach: f64, reynolds: f64) -> Check
 
 // What a roughness alone decides of the friction: the critical Reynolds number (eq. 3.79), from which on it limits the friction, and
 // the friction that it limits (eq. 3.80). Worked out once, it serves every Reynolds and Mach number.
-#[derive(Drop)]
+#[derive(Clone, Copy)]
 pub struct Wall {
     pub critical: Coefficient,
     pub limited: f64,
@@ -63,7 +63,7 @@ pub struct Wall {
 
 // What a Mach and a Reynolds number alone decide of the friction (eq. 3.82 to 3.84), below Mach 1 and from there on: the turbulent
 // friction, and the factor that corrects a limited one. Worked out once, it serves every wall.
-#[derive(Drop)]
+#[derive(Clone, Copy)]
 pub enum Flow {
     Subsonic {
         reynolds: f64,

@@ -21,7 +21,7 @@ use sheet_data::layout::{COLUMNS, PARTS, ROWS};
 use sheet_data::{Design, Part, Settings, Sheet, layout};
 
 // A call's answer: what it came to, and the sheet handed back.
-#[derive(Drop)]
+#[derive(Clone, Copy)]
 pub struct Answer {
     pub outcome: Check,
     pub sheet: Sheet,

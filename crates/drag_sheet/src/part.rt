@@ -14,7 +14,7 @@ use sheet_data::{Part, Settings};
 
 // A part that widens has a curve, one that narrows takes its share of the base drag, and one as wide
 // as the part before it has none.
-#[derive(Drop)]
+#[derive(Clone, Copy)]
 pub enum Row {
     Widening {
         curve: PressureDragCurve,
@@ -29,7 +29,7 @@ pub enum Row {
     Level,
 }
 
-#[derive(Drop)]
+#[derive(Clone, Copy)]
 pub enum Prepared {
     Ready(Row),
     Refused(AeroError),

@@ -9,7 +9,7 @@ use crate::{infinity, nan};
 
 // A float taken apart. A finite number other than zero is significand × 2^(digits - 1127), and its
 // significand has 53 binary digits, subnormal numbers included.
-#[derive(Drop)]
+#[derive(Clone, Copy)]
 pub enum Parts {
     Nan,
     Infinite {
@@ -27,7 +27,7 @@ pub enum Parts {
 
 // What `sqrt` and `ln` go by: the answer that they share where x is neither a zero nor a positive finite number, a zero, or the
 // number taken apart.
-#[derive(Drop)]
+#[derive(Clone, Copy)]
 pub(crate) enum Positive {
     Not(f64),
     Zero { negative: bool },
@@ -35,7 +35,7 @@ pub(crate) enum Positive {
 }
 
 // A whole number as a sign and a size.
-#[derive(Drop)]
+#[derive(Clone, Copy)]
 pub struct Whole {
     pub negative: bool,
     pub size: u64,

@@ -165,7 +165,7 @@ fn after(counts: Counts, line: &[u8]) -> Counts
 }
 
 // What is counted so far, and whether there may be more lines.
-#[derive(Drop)]
+#[derive(Clone, Copy)]
 struct Turn {
     counts: Counts,
     more: bool,

@@ -12,14 +12,14 @@ use shapes::NoseShape;
 use stoney::{SUBSONIC_MACH_LIMIT, StoneyNose};
 
 // The builder's answer.
-#[derive(Drop)]
+#[derive(Clone, Copy)]
 pub enum Curve {
     Built(PressureDragCurve),
     Refused(AeroError),
 }
 
 // Two references and the parameters at which they stand.
-#[derive(Drop)]
+#[derive(Clone, Copy)]
 struct Bracket {
     lower: Reference,
     upper: Reference,

@@ -20,7 +20,7 @@ use stoney::{StoneyNose, ValueAndSlope};
 pub(crate) const DEPTH: u8 = 4;
 
 // A curve that eq. B.9's scaling and the interpolation between shapes run between.
-#[derive(Drop)]
+#[derive(Clone, Copy)]
 pub enum Reference {
     // The blunt cylinder.
     Blunt,
@@ -35,7 +35,7 @@ pub enum Reference {
 }
 
 // A transonic and supersonic method, from its lower bound M_L up.
-#[derive(Drop)]
+#[derive(Clone, Copy)]
 pub enum Transonic {
     // The blunt cylinder.
     Blunt,
@@ -59,14 +59,14 @@ pub enum Transonic {
 }
 
 // What a curve was made for: a step or a bare front face, or a nose or shoulder of a shape.
-#[derive(Drop)]
+#[derive(Clone, Copy)]
 pub enum CurveShape {
     Step,
     Of(NoseShape),
 }
 
 // A nose's, shoulder's or step's pressure drag against Mach number, on its increase in area.
-#[derive(Drop)]
+#[derive(Clone, Copy)]
 pub struct PressureDragCurve {
     pub(crate) shape: CurveShape,
     pub(crate) fineness_ratio: f64,

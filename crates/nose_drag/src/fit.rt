@@ -7,7 +7,7 @@ use elementary::{is_between, is_finite};
 use stoney::ValueAndSlope;
 
 // Eq. 3.87's fit below M_L: how the drag rises from its value at rest to the method's value at M_L.
-#[derive(Drop)]
+#[derive(Clone, Copy)]
 pub enum Fit {
     // a Mᵇ, held as Δ (M/M_L)ᵇ.
     Power { delta: f64, b: f64 },

@@ -7,7 +7,7 @@ ghost use Rattle.replay.specs.Counts.{no_counts, counted_on, slot_of, counted, t
 use libc::STDOUT_FILENO;
 
 // What the bytes of a word spell.
-#[derive(Drop)]
+#[derive(Clone, Copy)]
 enum Field {
     Number(u64),
     Unread,
@@ -118,7 +118,7 @@ pub fn is_line(line: &[u8]) -> bool
 
 // How many lines of each kind were asked, and of all, and how many of them agree. The last of the 32 kinds is for lines that ask
 // for nothing.
-#[derive(Drop)]
+#[derive(Clone, Copy)]
 pub struct Counts {
     pub asked: [u64; 32],
     pub agreed: [u64; 32],
@@ -127,7 +127,7 @@ pub struct Counts {
 }
 
 // How many lines agree of how many.
-#[derive(Drop)]
+#[derive(Clone, Copy)]
 pub struct Tally {
     pub agreed: u64,
     pub asked: u64,

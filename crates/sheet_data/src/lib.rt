@@ -12,7 +12,7 @@ use shapes::NoseShape;
 
 // The reference diameter D, the roughness, the body fineness B, and `count` columns of a Mach and a
 // Reynolds number.
-#[derive(Drop)]
+#[derive(Clone, Copy)]
 pub struct Settings {
     pub reference_diameter: f64,
     pub roughness: f64,
@@ -23,14 +23,14 @@ pub struct Settings {
 }
 
 // The roughness of a part: the settings' one, or one of its own.
-#[derive(Drop)]
+#[derive(Clone, Copy)]
 pub enum PartRoughness {
     OfSettings,
     Own(f64),
 }
 
 // A part: its shape, length L, aft diameter d, joint angle, wetted ratio w and roughness.
-#[derive(Drop)]
+#[derive(Clone, Copy)]
 pub struct Part {
     pub shape: NoseShape,
     pub length: f64,
@@ -41,14 +41,14 @@ pub struct Part {
 }
 
 // `count` parts in places 0, 1, ..
-#[derive(Drop)]
+#[derive(Clone, Copy)]
 pub struct Design {
     pub count: usize,
     pub parts: [Part; PARTS],
 }
 
 // A sheet: the settings, the design that is looked at under them, and the nozzle diameter n, 0 when coasting.
-#[derive(Drop)]
+#[derive(Clone, Copy)]
 pub struct Sheet {
     pub settings: Settings,
     pub design: Design,

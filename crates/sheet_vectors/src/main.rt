@@ -116,7 +116,7 @@ fn is_call(tag: u8) -> bool {
 }
 
 // The last two words of a part, which its own line has no room for.
-#[derive(Drop)]
+#[derive(Clone, Copy)]
 struct Roughness {
     flag: u64,
     bits: u64,
@@ -231,7 +231,7 @@ fn carried_out(
 // ---- replaying
 
 // What is counted so far, the last two words of the parts given, how many cells are lent, and whether there may be more lines.
-#[derive(Drop)]
+#[derive(Clone, Copy)]
 struct Turn {
     counts: Counts,
     roughness: Roughness,

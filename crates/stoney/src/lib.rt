@@ -71,7 +71,7 @@ pub const DRAG: [f64; 149] = [
 ];
 
 // A nose that Stoney measured, in the order of the Rust's `ALL`.
-#[derive(Drop)]
+#[derive(Clone, Copy)]
 pub enum StoneyNose {
     // Power series x^1/4.
     PowerQuarter,
@@ -94,14 +94,14 @@ pub enum StoneyNose {
 }
 
 // The places of one nose's points in the two arrays: `count` of them from `first` on.
-#[derive(Drop)]
+#[derive(Clone, Copy)]
 pub struct PointRange {
     pub first: usize,
     pub count: usize,
 }
 
 // A pressure drag coefficient and its slope in Mach.
-#[derive(Drop)]
+#[derive(Clone, Copy)]
 pub struct ValueAndSlope {
     pub value: f64,
     pub slope: f64,

@@ -15,14 +15,14 @@ use stoney::{DRAG, MACH, POINTS, StoneyNose};
 pub const QUERIES: usize = 256;
 
 // The answer: how many times a query was set against a point, or the refusal.
-#[derive(Drop)]
+#[derive(Clone, Copy)]
 pub enum Walked {
     Compared(usize),
     Refused(AeroError),
 }
 
 // Where a query ends: how many points are passed then, and how many times it was set against one.
-#[derive(Drop)]
+#[derive(Clone, Copy)]
 struct QueryEnd {
     passed: usize,
     compared: usize,

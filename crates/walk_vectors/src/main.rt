@@ -127,7 +127,7 @@ fn after(counts: Counts, line: &[u8], queries: &mut [f64], cells: &mut [f64]) ->
 }
 
 // What is counted so far, and whether there may be more lines.
-#[derive(Drop)]
+#[derive(Clone, Copy)]
 struct Turn {
     counts: Counts,
     more: bool,

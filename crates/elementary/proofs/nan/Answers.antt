@@ -1,0 +1,8 @@
+-- `elementary::nan` meets its contract.
+use mathlib.Core.Path.{refl}
+use lib.Ieee.{of_bits, div}
+use Rattle.elementary.proofs.nan.Goals as goal
+
+pub returns : goal.returns
+unfolding of_bits div
+returns c = refl

@@ -1,0 +1,16 @@
+-- `drag_at` meets its contract, by computing: each of the 149 stored numbers is the binary64 number nearest the tabled one, and past them there is none.
+--
+use mathlib.Core.Path.{ap, sym}
+use lib.Ieee.{of_bits, round}
+use lib.ListN.{get_or-eq_default}
+use Rattle.stoney.specs.Points.{Point, points, all_points, no_point, drag_at}
+use Rattle.stoney.specs.Stored.{stored_at}
+use Rattle.stoney.proofs.drag_at.Goals as goal
+
+pub returns-then-place-lt-POINTS : goal.returns-then-place-lt-POINTS
+unfolding drag_at points of_bits round
+returns-then-place-lt-POINTS c = ap (λ (p : Point). p.drag) (stored_at c.args.place c.if-place-lt-POINTS.true)
+
+pub returns-else-place-lt-POINTS : goal.returns-else-place-lt-POINTS
+unfolding drag_at points of_bits round
+returns-else-place-lt-POINTS c = ap (λ (p : Point). p.drag) (sym (get_or-eq_default all_points no_point c.if-place-lt-POINTS.false))
