@@ -13,7 +13,7 @@ import glob
 import re
 import sys
 
-DECLARED = re.compile(r"^(\s*)((?:abbrev |unfoldable |pub |data |record )*)([^\s:(){}\[\];,.]+)((?:\s*\{[^}]*\}|\s*\([^)]*\))*)\s*:\s(.*)")
+DECLARED = re.compile(r"^(\s*)((?:abbrev |unfoldable |pub |data |record )*)([^\s:(){}\[\];,.]+)((?:\s*\{[^}]*\}|\s*\([^)]*\))*)\s*:(?:\s(.*)|$)")
 TOKEN = re.compile(r"[^\s(){}\[\];,.`]+")
 OPERATOR = re.compile(r"◌([^◌\s]+)◌")
 # The constants that mirror one of the source: lower case, since a definition does not have a constant's name.
@@ -47,7 +47,8 @@ def source_files():
 
 
 def is_walk(path):
-    return path.endswith("/Proof.antt")
+    """The proof of one function, whose names are Rattle's goals."""
+    return re.search(r"/(specs|proofs)/.+/(Proof|Answers|Invariants)\.antt$", path) is not None
 
 
 def read(path):
@@ -86,7 +87,7 @@ def collect():
             names.add(found[3])
             if re.search(r"\b(abbrev|unfoldable|data|record)\b", found[2]):
                 definitions.add(found[3])
-            if re.search(r"Type 0\s*$", re.split(r"\swhere\b", found[5])[0]):
+            if re.search(r"Type 0\s*$", re.split(r"\swhere\b", found[5] or "")[0]):
                 facts.add(found[3])
     return names, definitions, facts, imported
 

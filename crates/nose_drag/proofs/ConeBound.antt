@@ -115,11 +115,11 @@ width : Within 1 (cone_supersonic_mach ⊖ 1·0) × Least 4 (cone_supersonic_mac
 unfolding of_bits round sub add sum neg
 width = (lit≤ tt, lit≤ tt)
 
-hermite-within :
+hermite_within :
     (y₀ m₀ y₁ m₁ x : Float) → Within 1 y₀ → Within 2 m₀ → Within 1 y₁ → Within 1 m₁ → T (unsigned x) → Within 2 x
     → Within 633 (hermite 1·0 y₀ m₀ cone_supersonic_mach y₁ m₁ x).value
 unfolding hermite
-hermite-within y₀ m₀ y₁ m₁ x Y₀ M₀ Y₁ M₁ u w =
+hermite_within y₀ m₀ y₁ m₁ x Y₀ M₀ Y₁ M₁ u w =
     let h = cone_supersonic_mach ⊖ 1·0 in
     let t = (x ⊖ 1·0) ⊘ h in
     let t2 = t ⊗ t in
@@ -172,7 +172,7 @@ transonic_within M p = go (cone_supersonic_mach ≼ M) refl
     go true e = rw e (within_more (cone_supersonic S M).value 5 633 (lit≤ tt) (supersonic_within M p (subst T (sym e) tt)))
     go false e =
         let w = within_under M 1·3 2 p (stays_under M 1·3 p (positive-finite 1·3 supersonic_mach.0) e) supersonic_mach.3 in
-        rw e (hermite-within _ _ _ _ M bounded.sine ends_within.0 ends_within.1 ends_within.2 (positive_unsigned M p) w)
+        rw e (hermite_within _ _ _ _ M bounded.sine ends_within.0 ends_within.1 ends_within.2 (positive_unsigned M p) w)
 
 above_within : (M : Float) → T (positive M) → (M ≺ 1·0) ≡ false → Within (2 ^ 786) (reference_at cone_3 M).value
 unfolding cone_method

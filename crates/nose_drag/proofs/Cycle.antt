@@ -17,10 +17,10 @@ whole_cone_lem : (f factor rest M : Float) → curve_at (from_transonic rest (Tr
 unfolding from_transonic whole_cone
 whole_cone_lem f factor rest M = refl
 
-pub cone-reference :
+pub cone_reference :
     (self : Reference) (f factor rest M : Float) (cone : Transonic) (curve : PressureDragCurve) (r : ValueAndSlope) → self ≡ Reference.Cone f factor rest →
     cone ≡ Transonic.Cone (sin_half_angle f) factor → curve ≡ from_transonic rest cone 1·0 → r ≡ curve_at curve M → r ≡ reference_at self M
-cone-reference self f factor rest M cone curve r is-self is-cone is-curve is-r =
+cone_reference self f factor rest M cone curve r is-self is-cone is-curve is-r =
     is-r
     ∙ ap (λ (q : PressureDragCurve). curve_at q M) (is-curve ∙ ap (λ (t : Transonic). from_transonic rest t 1·0) is-cone)
     ∙ whole_cone_lem f factor rest M

@@ -30,7 +30,7 @@ use Rattle.nose_drag.specs.declared.builder.Curve.{Curve}
 use Rattle.nose_drag.specs.Constants.{0·75}
 use Rattle.nose_drag.specs.Forms.{blunt}
 use Rattle.nose_drag.specs.Methods.{reference_at, mixed, scaled, fineness_scaled, fineness_exponent}
-use Rattle.nose_drag.specs.Values.{scaled_value, value-of-scaled}
+use Rattle.nose_drag.specs.Values.{scaled_value, value_of_scaled}
 use Rattle.nose_drag.specs.Curves.{cone_3, coefficient_of, power_bracket, parabolic_bracket, weight_of, new_curve}
 use Rattle.nose_drag.specs.Between.{Between, between_coefficient, power_between, parabolic_between, haack_between, Measured, power_at_1/4, power_at_1/2, power_at_3/4, parabolic_at_1/2, parabolic_at_3/4, haack_at_0, own_number}
 
@@ -46,7 +46,7 @@ lower_alone nose upper f M n h F ok w =
     let k = mach_passed M ok in
     let b = table_bounded nose M k.is_finite k.not_negative in
     let d = within_finite (hi ⊖ lo) (n + n) (sub_within hi lo n n F w (within_more lo 65 n h b.within)) in
-    sym (value-of-scaled (reference_at (Reference.Stoney nose) M) (reference_at upper M) 0·0 (fineness_exponent f) M)
+    sym (value_of_scaled (reference_at (Reference.Stoney nose) M) (reference_at upper M) 0·0 (fineness_exponent f) M)
     ∙ alike_choice (mixed lo hi 0·0) lo 0·0 (λ c. fineness_scaled c (0·85 ⊗ stagnation_ratio M) (fineness_exponent f)) (nothing_of lo (hi ⊖ lo) b.fits (within_finite lo 65 b.within) d)
 
 -- ---- each measured shape, with the reference above it

@@ -43,10 +43,10 @@ scaled_value lo hi weight exponent M =
     let c0 = 0·85 ⊗ stagnation_ratio M in
     cond (c3 ≼ 0·0) 0·0 (fineness_scaled c3 c0 exponent)
 
-pub value-of-scaled :
+pub value_of_scaled :
     (lo hi : ValueAndSlope) (weight exponent M : Float) → scaled_value lo.value hi.value weight exponent M ≡ (scaled lo hi weight exponent M).value
 unfolding scaled_value scaled blunt
-value-of-scaled lo hi weight exponent M = simp value_of_cond
+value_of_scaled lo hi weight exponent M = simp value_of_cond
 
 -- a whole cone curve from Mach 1 on
 pub whole_cone_above : (f factor rest M : Float) → (M ≺ 1·0) ≡ false → whole_cone f factor rest M ≡ cone_method (sin_half_angle f) factor M

@@ -1,6 +1,6 @@
 -- With which weight the upper of two references counts. At the start of a gap it is 0, so that the lower one counts alone (proofs/Measured.antt), and at the end of a
 -- series 1; there lo + 1 × (hi - lo) is rounded twice and may differ from hi in its last bits. In between it is (k - low)/(high - low). A weight by half the gap between
--- 0.5 and 0.75 would give the upper nose the weight 1 midway there. `not-half-gap` names that weight and excludes it.
+-- 0.5 and 0.75 would give the upper nose the weight 1 midway there. `not_half_gap` names that weight and excludes it.
 use Rattle.std.specs.Prelude.{◌≡◌, refl, true, false, [], ◌∷◌, map, Float}
 use Rattle.std.proofs.Common.{sym, ap, ◌∙◌, true≢false}
 use Rattle.std.specs.Float.Ieee.{of_bits, round, sum, neg, add, sub, mul, div, lt}
@@ -24,22 +24,22 @@ abbrev upper_end : (Float → Bracket) → Float → Reference × Float
 upper_end series k = ((series k).upper, weight_of (series k) k)
 
 -- at 0, 1/4, 1/2 and 3/4 a power series begins at the lower reference, with the weight 0 for the upper one; at 1 that weight is 1
-pub measured-power :
+pub measured_power :
     map (lower_end power_bracket) (0·0 ∷ 0·25 ∷ 0·5 ∷ 0·75 ∷ [])
     ≡ (Reference.Blunt, 0·0) ∷ (Reference.Stoney PowerQuarter, 0·0) ∷ (Reference.Stoney PowerHalf, 0·0) ∷ (Reference.Stoney PowerThreeQuarters, 0·0) ∷ []
 unfolding power_bracket weight_of of_bits round sub add sum neg mul div lt
-measured-power = refl
+measured_power = refl
 
 pub whole_power : upper_end power_bracket 1·0 ≡ (cone_3, 1·0)
 unfolding power_bracket weight_of of_bits round sub add sum neg mul div lt
 whole_power = refl
 
 -- the same of a parabolic series at 0, 1/2 and 3/4, and at 1
-pub measured-parabolic :
+pub measured_parabolic :
     map (lower_end parabolic_bracket) (0·0 ∷ 0·5 ∷ 0·75 ∷ [])
     ≡ (cone_3, 0·0) ∷ (Reference.Stoney ParabolaHalf, 0·0) ∷ (Reference.Stoney ParabolaThreeQuarters, 0·0) ∷ []
 unfolding parabolic_bracket weight_of of_bits round sub add sum neg mul div lt
-measured-parabolic = refl
+measured_parabolic = refl
 
 pub whole_parabolic : upper_end parabolic_bracket 1·0 ≡ (Reference.Stoney Parabola, 1·0)
 unfolding parabolic_bracket weight_of of_bits round sub add sum neg mul div lt
@@ -68,10 +68,10 @@ abbrev pub 0·625 : Float
 0·625 = bits 0x3fe4000000000000
 
 -- midway the weight is one half; by half the gap it would be 1
-half-at-5/8 :
+half_at_5/8 :
     (weight_of (power_bracket 0·625) 0·625 ≡ 0·5) × (weight_of (parabolic_bracket 0·625) 0·625 ≡ 0·5) × (half_gap 0·625 ≡ 1·0)
 unfolding power_bracket parabolic_bracket weight_of of_bits round sub add sum neg mul div lt
-half-at-5/8 = (refl, refl, refl)
+half_at_5/8 = (refl, refl, refl)
 
 half_is_less : (0·5 ≺ 1·0) ≡ true
 unfolding of_bits lt
@@ -84,6 +84,6 @@ one_is_not = refl
 half_not_one : 0·5 ≡ 1·0 → ⊥
 half_not_one e = true≢false (sym half_is_less ∙ ap (λ (x : Float). x ≺ 1·0) e ∙ one_is_not)
 
-pub not-half-gap :
+pub not_half_gap :
     ((weight_of (power_bracket 0·625) 0·625 ≡ half_gap 0·625) → ⊥) × ((weight_of (parabolic_bracket 0·625) 0·625 ≡ half_gap 0·625) → ⊥)
-not-half-gap = ((λ e. half_not_one (sym half-at-5/8.0 ∙ e ∙ half-at-5/8.2)), λ e. half_not_one (sym half-at-5/8.1 ∙ e ∙ half-at-5/8.2))
+not_half_gap = ((λ e. half_not_one (sym half_at_5/8.0 ∙ e ∙ half_at_5/8.2)), λ e. half_not_one (sym half_at_5/8.1 ∙ e ∙ half_at_5/8.2))

@@ -84,7 +84,7 @@ impl Reference {
         rest: 0.8 / 37.0,
     };
 
-    #[cycle(from_transonic_value_and_slope_value_and_slope_value_and_slope)]
+    #[cycle(pressure_drag)]
     fn value_and_slope(self, mach: f64, depth: u8) -> ValueAndSlope
         requires { depth_of_reference self ≤ depth }
         ensures { result ≡ reference_at self mach }
@@ -144,7 +144,7 @@ impl Transonic {
         }
     }
 
-    #[cycle(from_transonic_value_and_slope_value_and_slope_value_and_slope)]
+    #[cycle(pressure_drag)]
     fn value_and_slope(self, mach: f64, depth: u8) -> ValueAndSlope
         requires { depth_of_transonic self ≤ depth }
         ensures { result ≡ method_at self mach }
@@ -206,7 +206,7 @@ impl Transonic {
 
 impl PressureDragCurve {
     // From the value at rest, the method and M_L. With M_L 0 the method covers every Mach number, and the value at rest is its own.
-    #[cycle(from_transonic_value_and_slope_value_and_slope_value_and_slope)]
+    #[cycle(pressure_drag)]
     pub(crate) fn from_transonic(
         rest: f64,
         transonic: Transonic,
@@ -239,7 +239,7 @@ impl PressureDragCurve {
     }
 
     // The value and slope at a checked Mach number.
-    #[cycle(from_transonic_value_and_slope_value_and_slope_value_and_slope)]
+    #[cycle(pressure_drag)]
     fn value_and_slope(self, mach: f64, depth: u8) -> ValueAndSlope
         requires { suc (depth_of_transonic self.transonic) ≤ depth }
         ensures { result ≡ curve_at self mach }

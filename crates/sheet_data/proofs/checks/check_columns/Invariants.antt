@@ -1,0 +1,17 @@
+use mathlib.Core.Path.{◌≡◌, sym, ◌∙◌}
+use Prim.Native.Nat.{◌-◌, ◌≤◌}
+use native.Mathlib.Omega.{arith}
+use lib.ListN.{get_or}
+use lib.Ieee.{nan}
+use Rattle.aero_error.specs.declared.Check.TheVariants.{Passed}
+use Rattle.aero_error.specs.Checks.{up_to}
+use Rattle.aero_error.specs.CheckLaws.{up_none, up_more, up_failed, up_end}
+use Rattle.drag.specs.Friction.{flow_checked}
+use Rattle.sheet_data.specs.Tests.{columns_test}
+use Rattle.sheet_data.proofs.checks.check_columns.Given as goal
+
+abbrev pub invariant-loop-i : goal.invariant-loop-i
+invariant-loop-i l = (l.i ≤ l.count) × (up_to l.i (λ k. flow_checked (get_or l.machs k nan) (get_or l.reynolds k nan)) ≡ Passed)
+
+abbrev pub decreases-loop-i : goal.decreases-loop-i
+decreases-loop-i l = l.count - l.i

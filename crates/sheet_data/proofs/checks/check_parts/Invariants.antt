@@ -1,0 +1,17 @@
+use mathlib.Core.Path.{◌≡◌, sym, ap, ◌∙◌}
+use Prim.Native.Nat.{◌-◌, ◌≤◌}
+use native.Mathlib.Omega.{arith}
+use lib.ListN.{length, take, length-map}
+use lib.Seq.{length-take-le}
+use Rattle.aero_error.specs.declared.Check.TheVariants.{Passed}
+use Rattle.aero_error.specs.Checks.{up_to}
+use Rattle.aero_error.specs.CheckLaws.{up_none, up_more, up_failed, up_end}
+use Rattle.sheet_data.specs.Tests.{part_test, parts_test}
+use Rattle.sheet_data.specs.Contents.{part_at, part_taken}
+use Rattle.sheet_data.proofs.checks.check_parts.Given as goal
+
+abbrev pub invariant-loop-place : goal.invariant-loop-place
+invariant-loop-place l = (l.place ≤ l.count) × (up_to l.place (λ i. part_test (part_at (take l.count l.parts) i)) ≡ Passed)
+
+abbrev pub decreases-loop-place : goal.decreases-loop-place
+decreases-loop-place l = l.count - l.place

@@ -1,0 +1,16 @@
+use mathlib.Core.Path.{◌≡◌, ◌∙◌}
+use mathlib.Core.List.{List}
+use Prim.Native.Nat.{◌-◌, ◌≤◌}
+use native.Mathlib.Omega.{arith}
+use lib.Ieee.{Float}
+use Rattle.walk.specs.Walk.{went}
+use Rattle.walk.specs.Places.{stand_at}
+use Rattle.walk.proofs.Turns.{after, after_none, moves, stops, ends_past}
+use Rattle.walk.proofs.leg.Given as goal
+
+abbrev pub invariant-loop-passed : goal.invariant-loop-passed
+invariant-loop-passed l = (l.passed ≤ l.count) × (l.compared ≤ l.passed)
+    × ((drags : List Float) → went (stand_at l.machs drags l.first l.count l.from) l.mach ≡ after l.compared (went (stand_at l.machs drags l.first l.count l.passed) l.mach))
+
+abbrev pub decreases-loop-passed : goal.decreases-loop-passed
+decreases-loop-passed l = l.count - l.passed
