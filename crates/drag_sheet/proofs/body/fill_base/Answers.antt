@@ -1,0 +1,20 @@
+-- `fill_base` meets its contract: the cells before i are filled.
+use Prim.Native.Nat.{◌-◌}
+use native.Mathlib.Omega.{arith}
+use lib.ListN.{length, get_or}
+use lib.Ieee.{nan}
+use Rattle.sheet_data.specs.Tables.{Filling, fill_none, fill_more, fill_end}
+use Rattle.drag_sheet.specs.Body.{base_over}
+use Rattle.drag_sheet.proofs.body.fill_base.Goals as goal
+
+pub loop-i-preserved : goal.loop-i-preserved
+loop-i-preserved c = let l = c.loop-i in fill_more _ _ l.invariant (omega (arith, l.invariant.long)) (rw (c.value_of.ensures, c.base_drag_coefficient.ensures))
+
+pub loop-i-init : goal.loop-i-init
+loop-i-init c = fill_none _ _
+
+pub shape_of-out : goal.shape_of-out
+shape_of-out c = c.loop-i.invariant.long
+
+pub returns : goal.returns
+returns c = fill_end nan _ c.loop-i.invariant (omega (arith, c.loop-i.invariant.long))

@@ -1,0 +1,21 @@
+use mathlib.Core.Path.{◌≡◌, sym, ap, ◌∙◌}
+use mathlib.Core.Logic.{⊎_elim}
+use Prim.Native.Nat.{ℕ, ◌-◌, ◌≤◌}
+use native.Mathlib.Omega.{arith}
+use lib.ListN.{length, get_or, length-replicate}
+use lib.Ieee.{Float, nan}
+use Rattle.elementary.specs.Arithmetic.{◌⊗◌}
+use Rattle.elementary.specs.Constants.{0·0}
+use Rattle.drag.specs.Friction.{wall_of}
+use Rattle.sheet_data.specs.Contents.{part_at}
+use Rattle.sheet_data.specs.Tables.{tab, tab_long, tab_same, tab_constant}
+use Rattle.drag_sheet.specs.Formulas.{sum_to}
+use Rattle.drag_sheet.specs.Body.{flow_at, formed, formed_for}
+use Rattle.drag_sheet.proofs.Sums.{sum_none, terms_more}
+use Rattle.drag_sheet.proofs.friction.add_by_place.Given as goal
+
+abbrev pub invariant-loop-place : goal.invariant-loop-place
+invariant-loop-place l = (l.place ≤ l.count) × (l.sum ≡ tab (length l.common) (λ k. sum_to l.place (λ i. formed_for (part_at l.design.parts i).roughness (get_or l.common k nan) l.form (flow_at l.flows k) ⊗ (part_at l.design.parts i).wetted_ratio)))
+
+abbrev pub decreases-loop-place : goal.decreases-loop-place
+decreases-loop-place l = l.count - l.place

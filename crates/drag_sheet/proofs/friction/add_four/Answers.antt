@@ -1,0 +1,22 @@
+-- `add_four` meets its contract: the cells before i are added, the others are as they were.
+use Prim.Native.Nat.{◌-◌}
+use native.Mathlib.Omega.{arith}
+use lib.ListN.{length, get_or}
+use lib.Ieee.{nan}
+use Rattle.sheet_data.specs.Tables.{Filling, fill_none, fill_more, fill_end}
+use Rattle.drag_sheet.specs.Body.{four_more}
+use Rattle.drag_sheet.proofs.friction.add_four.Goals as goal
+
+pub loop-i-preserved : goal.loop-i-preserved
+loop-i-preserved c =
+    let l = c.loop-i in
+    fill_more _ _ l.invariant (omega (arith, l.invariant.long)) (rw (l.invariant.left nan l.i (omega arith)))
+
+pub loop-i-init : goal.loop-i-init
+loop-i-init c = fill_none _ _
+
+pub shape_of-sum : goal.shape_of-sum
+shape_of-sum c = c.loop-i.invariant.long
+
+pub returns : goal.returns
+returns c = fill_end nan _ c.loop-i.invariant (omega (arith, c.loop-i.invariant.long))

@@ -1,0 +1,14 @@
+use Prim.Native.Nat.{◌-◌}
+use native.Mathlib.Omega.{arith}
+use lib.ListN.{length, get_or}
+use lib.Ieee.{nan}
+use Rattle.elementary.specs.Arithmetic.{◌⊕◌, ◌⊗◌}
+use Rattle.sheet_data.specs.Tables.{Filling, fill_none, fill_more, fill_end}
+use Rattle.drag_sheet.specs.Body.{flow_at, formed}
+use Rattle.drag_sheet.proofs.friction.add_own.Given as goal
+
+abbrev pub invariant-loop-i : goal.invariant-loop-i
+invariant-loop-i l = Filling (λ k. get_or l.initial.sum k nan ⊕ formed l.wall l.form (flow_at l.flows k) ⊗ l.wetted_ratio) l.initial.sum l.sum l.i
+
+abbrev pub decreases-loop-i : goal.decreases-loop-i
+decreases-loop-i l = length l.initial.sum - l.i

@@ -1,0 +1,22 @@
+-- `fill_once` meets its contract: the cells before i are filled.
+use Prim.Native.Nat.{◌-◌}
+use native.Mathlib.Omega.{arith}
+use lib.ListN.{length, get_or}
+use lib.Ieee.{nan}
+use Rattle.elementary.specs.Arithmetic.{◌⊗◌}
+use Rattle.drag.specs.Friction.{friction_on}
+use Rattle.sheet_data.specs.Tables.{Filling, fill_none, fill_more, fill_end}
+use Rattle.drag_sheet.specs.Formulas.{value_of}
+use Rattle.drag_sheet.proofs.friction.fill_once.Goals as goal
+
+pub loop-i-preserved : goal.loop-i-preserved
+loop-i-preserved c = let l = c.loop-i in fill_more _ _ l.invariant (omega (arith, l.invariant.long)) (rw (c.value_of.ensures, c.friction_on.ensures))
+
+pub loop-i-init : goal.loop-i-init
+loop-i-init c = fill_none _ _
+
+pub shape_of-out : goal.shape_of-out
+shape_of-out c = c.loop-i.invariant.long
+
+pub returns : goal.returns
+returns c = fill_end nan _ c.loop-i.invariant (omega (arith, c.loop-i.invariant.long))

@@ -1,0 +1,21 @@
+-- `flows_of` meets its contract: the flows of the columns before i are there.
+use mathlib.Core.Bool.{true}
+use Prim.Native.Nat.{◌-◌, ◌≤◌}
+use native.Mathlib.Omega.{arith}
+use lib.ListN.{get_or}
+use lib.Ieee.{nan}
+use Rattle.drag.specs.Flows.{flow_of}
+use Rattle.sheet_data.specs.Tables.{Filling, fill_none, fill_more}
+use Rattle.drag_sheet.specs.Body.{no_flow}
+use Rattle.drag_sheet.proofs.friction.flows_of.Goals as goal
+
+pub loop-i-preserved : goal.loop-i-preserved
+loop-i-preserved c =
+    let l = c.loop-i in
+    (omega arith, fill_more _ _ l.invariant.1 (omega arith) c.flow_of.ensures)
+
+pub returns : goal.returns
+returns c = record { at = λ k h. c.loop-i.invariant.1.done no_flow k (omega arith) }
+
+pub loop-i-init : goal.loop-i-init
+loop-i-init c = (omega arith, fill_none _ _)

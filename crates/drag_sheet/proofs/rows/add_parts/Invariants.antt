@@ -1,0 +1,25 @@
+use mathlib.Core.Path.{◌≡◌, refl, sym, ap, ◌∙◌}
+use mathlib.Core.List.{List}
+use Prim.Native.Nat.{ℕ, ◌+◌, ◌-◌, ◌*◌, ◌≤◌}
+use native.Mathlib.Omega.{arith}
+use lib.ListN.{length, length-replicate}
+use lib.Ieee.{Float}
+use Rattle.elementary.specs.Constants.{0·0}
+use Rattle.sheet_data.specs.Layout.{most_parts, finishes, all_rows}
+use Rattle.sheet_data.specs.RowLaws.{room, one_more, middle_long}
+use Rattle.sheet_data.specs.Tables.{tab, tab_long, tab_same, tab_constant}
+use Rattle.drag_sheet.specs.Formulas.{sum_to}
+use Rattle.drag_sheet.specs.Writing.{there}
+use Rattle.drag_sheet.proofs.Sums.{sum_none, sum_more, add_there}
+use Rattle.drag_sheet.proofs.rows.add_parts.Given as goal
+
+pub record Adding (count : ℕ) (cells sum : List Float) (at row : ℕ) : Type 0 where
+  pub here : at ≡ row * count
+  pub turns : row ≤ most_parts
+  pub done : sum ≡ tab count (λ k. sum_to row (λ i. there count cells i k))
+
+abbrev pub invariant-loop-row : goal.invariant-loop-row
+invariant-loop-row l = Adding l.count l.cells l.sum l.at l.row
+
+abbrev pub decreases-loop-row : goal.decreases-loop-row
+decreases-loop-row l = most_parts - l.row

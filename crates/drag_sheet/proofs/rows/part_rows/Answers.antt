@@ -1,0 +1,95 @@
+-- `part_rows` meets its contract: the rows of the places before this one are written, and each of them could be.
+use mathlib.Core.Path.{◌≡◌, sym, ap, ◌∙◌}
+use mathlib.Core.List.{List}
+use Prim.Native.Nat.{ℕ, ◌+◌, ◌-◌, ◌≤◌}
+use native.Mathlib.Omega.{arith}
+use lib.ListN.{length, take, length-map}
+use lib.Seq.{length-take-le}
+use borrow.Rule.Slice.PartMut.{same_len_mid}
+use Rattle.elementary.specs.Constants.{0·0}
+use Rattle.aero_error.specs.CheckLaws.{up_failed, up_end}
+use Rattle.sheet_data.specs.declared.Part.{Part}
+use Rattle.sheet_data.specs.declared.Settings.{Settings}
+use Rattle.sheet_data.specs.Layout.{most_parts}
+use Rattle.sheet_data.specs.Contents.{Contents, contents_of, part_taken}
+use Rattle.sheet_data.specs.Rows.{from, rows_written}
+use Rattle.sheet_data.specs.RowLaws.{middle_long, from_below, rows_same}
+use Rattle.drag_sheet.specs.Build.{trial, row_of}
+use Rattle.drag_sheet.specs.Calls.{with_nozzle}
+use Rattle.drag_sheet.proofs.Verdicts.{filled_refused, filled_passed}
+use Rattle.drag_sheet.proofs.RowKinds.{same_trial, above_base}
+use Rattle.drag_sheet.proofs.Laying.{Laying, none_laid, prepared_next, laid_next}
+use Rattle.drag_sheet.proofs.rows.part_rows.Invariants.{contents}
+use Rattle.drag_sheet.proofs.rows.part_rows.Goals as goal
+use Rattle.drag_sheet.proofs.rows.part_rows.Goals.{After-offset-at, Start}
+
+long : (s : Start) → length (take s.args.sheet.design.count s.args.sheet.design.parts) ≡ s.args.sheet.design.count
+long s = length-take-le s.args.sheet.design.count s.args.sheet.design.parts (omega (arith, s.requires.parts, s.well_formed.0.1.1.1.0.1.1.1.0.1.0.1))
+
+pub offset-at-requires : goal.offset-at-requires
+offset-at-requires c = let f = c.requires in (omega (arith, f.parts), f.columns)
+
+-- the row lies within the cells
+inside : (c : After-offset-at) → c.offset-at.result + c.args.sheet.settings.count ≤ length c.loop-place.cells
+inside c = omega (arith, c.offset-at.ensures.inside, c.requires.room, c.loop-place.invariant.rows.long)
+
+pub part_row-check-requires : goal.part_row-check-requires
+part_row-check-requires c =
+    (c.requires.columns, middle_long c.offset-at.result c.args.sheet.settings.count c.loop-place.cells (inside (goal.at.part_row-check-requires c).After-offset-at))
+
+pub shape_of-cells-in_default : goal.shape_of-cells-in_default
+shape_of-cells-in_default c =
+    let at = c.loop-place in
+    let o = c.offset-at.result in
+    let f = c.part_row-check in
+    same_len_mid o (o + c.args.sheet.settings.count - o) at.cells f.new.out f.auto.out ∙ at.invariant.rows.long
+
+pub returns-in_default : goal.returns-in_default
+unfolding trial
+returns-in_default c =
+    let at = c.loop-place in
+    let f = c.part_row-check in
+    let h = c.loop-place-test.true in
+    let p = prepared_next (contents c.args.sheet.settings c.args.sheet.design.count c.args.sheet.design.parts) at.invariant (part_taken _ _ _ h) f.ensures in
+    filled_refused (sym (same_trial 0·0 (contents_of c.args.sheet)) ∙ up_failed _ _ _ _ at.invariant.passed (sym p.verdict ∙ c.in_default.is) (omega (arith, long (goal.at.returns-in_default c).Start))) c.in_default.is
+
+pub loop-place-preserved : goal.loop-place-preserved
+loop-place-preserved c =
+    let at = c.loop-place in
+    let n = c.args.sheet.settings.count in
+    let o = c.offset-at in
+    let f = c.part_row-check in
+    let h = c.loop-place-test.true in
+    let all = contents c.args.sheet.settings c.args.sheet.design.count c.args.sheet.design.parts in
+    let w = f.auto.out ∙ middle_long o.result n at.cells (inside (goal.at.loop-place-preserved c).After-offset-at) in
+    laid_next all at.invariant o.result f.new.out o.ensures.place (inside (goal.at.loop-place-preserved c).After-offset-at) w (part_taken _ _ _ h) (omega (arith, c.requires.parts)) (omega (arith, long (goal.at.loop-place-preserved c).Start)) f.ensures c.in-Passed.is h
+
+pub returns : goal.returns
+unfolding trial
+returns c =
+    let at = c.loop-place in
+    let e : c.args.sheet.design.count ≡ at.place = omega (arith, at.invariant.rows.turns) in
+    let l = long (goal.at.returns c).Start in
+    let all = contents_of c.args.sheet in
+    filled_passed (sym (same_trial 0·0 all) ∙ sym (up_end _ (omega (arith, at.invariant.rows.turns)) (omega arith) at.invariant.passed))
+    (at.invariant.rows.done
+    ∙ ap (λ (k : ℕ). rows_written all.settings.count (row_of (with_nozzle 0·0 all)) (from 0 k) c.args.cells.now) (sym e)
+    ∙ rows_same all.settings.count _ _ (from 0 c.args.sheet.design.count) most_parts _ (from_below 0 c.args.sheet.design.count most_parts (omega (arith, c.requires.parts))) (λ r h. above_base 0·0 all r (omega arith)))
+
+pub loop-place-init : goal.loop-place-init
+loop-place-init c = none_laid _
+
+pub overflow_add-end : goal.overflow_add-end
+overflow_add-end c = omega (arith, c.offset-at.ensures.small)
+
+pub offset_bounds-cells-at : goal.offset_bounds-cells-at
+offset_bounds-cells-at c = omega (arith, c.offset-at.ensures.small)
+
+pub slice_bounds-part_row-start : goal.slice_bounds-part_row-start
+slice_bounds-part_row-start c = omega (arith, inside (goal.at.slice_bounds-part_row-start c).After-offset-at)
+
+pub slice_bounds-part_row-end : goal.slice_bounds-part_row-end
+slice_bounds-part_row-end c = inside (goal.at.slice_bounds-part_row-end c).After-offset-at
+
+pub shape_of-cells : goal.shape_of-cells
+shape_of-cells c = c.loop-place.invariant.rows.long

@@ -1,0 +1,14 @@
+use mathlib.Core.Path.{◌≡◌, ◌∙◌}
+use Prim.Native.Nat.{◌+◌, ◌-◌, ◌<◌}
+use native.Mathlib.Omega.{arith}
+use Rattle.sheet_data.specs.Layout.{finishes, friction_row}
+use Rattle.sheet_data.specs.Contents.{contents_of}
+use Rattle.sheet_data.specs.RowLaws.{RowsDone, rows_none, rows_next, rows_end}
+use Rattle.drag_sheet.specs.Build.{row_of}
+use Rattle.drag_sheet.proofs.rows.write_frictions.Given as goal
+
+abbrev pub invariant-loop-finish : goal.invariant-loop-finish
+invariant-loop-finish l = RowsDone l.sheet.settings.count (row_of (contents_of l.sheet)) (friction_row 0) finishes l.initial.cells l.cells l.finish
+
+abbrev pub decreases-loop-finish : goal.decreases-loop-finish
+decreases-loop-finish l = l.finish-end - l.finish
