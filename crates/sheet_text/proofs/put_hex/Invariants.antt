@@ -1,0 +1,14 @@
+use mathlib.Core.Path.{◌≡◌, refl, sym, ap, ◌∙◌}
+use Prim.Native.Nat.{ℕ, ◌+◌, ◌-◌, ◌≤◌, ◌/◌}
+use native.Mathlib.Omega.{arith}
+use lib.ListN.{length, set, length-set}
+use lib.Seq.{sets}
+use Rattle.sheet_text.specs.Bytes.{digits, hex_digits}
+use Rattle.sheet_text.proofs.Puts.{hex_long, hex_step}
+use Rattle.sheet_text.proofs.put_hex.Given as goal
+
+abbrev pub invariant-loop-n : goal.invariant-loop-n
+invariant-loop-n l = (l.n ≤ digits) × (length l.out ≡ length l.initial.out) × (sets l.initial.out l.at (hex_digits digits l.x) ≡ sets l.out l.at (hex_digits l.n l.rest))
+
+abbrev pub decreases-loop-n : goal.decreases-loop-n
+decreases-loop-n l = l.n

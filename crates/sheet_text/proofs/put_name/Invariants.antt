@@ -1,0 +1,13 @@
+use lib.ListN.{get_or, length, drop, set, length-set, drop_of_length-le}
+use mathlib.Core.Path.{◌≡◌, refl}
+use mathlib.Core.List.{[], ◌∷◌}
+use Prim.Native.Nat.{◌+◌, ◌-◌, ◌≤◌}
+use native.Mathlib.Omega.{arith}
+use Rattle.sheet_text.proofs.Puts.{Putting, none_put, piece_put, all_put, first_byte}
+use Rattle.sheet_text.proofs.put_name.Given as goal
+
+abbrev pub invariant-loop-i : goal.invariant-loop-i
+invariant-loop-i l = (l.i ≤ length l.name) × (l.at ≡ l.start + l.i) × Putting l.name l.initial.out l.start (drop l.i l.name) l.out l.at
+
+abbrev pub decreases-loop-i : goal.decreases-loop-i
+decreases-loop-i l = length l.name - l.i

@@ -1,0 +1,14 @@
+use lib.Ieee.{nan}
+use lib.ListN.{get_or, length, drop, drop_of_length-le}
+use mathlib.Core.Path.{◌≡◌, ap}
+use Prim.Native.Nat.{◌+◌, ◌-◌, ◌*◌, ◌≤◌}
+use native.Mathlib.Omega.{arith}
+use Rattle.sheet_text.specs.Text.{number_text_size, numbers_text, number_text}
+use Rattle.sheet_text.proofs.Puts.{Putting, none_put, piece_put, all_put, first_number, number_long}
+use Rattle.sheet_text.proofs.put_numbers.Given as goal
+
+abbrev pub invariant-loop-i : goal.invariant-loop-i
+invariant-loop-i l = (l.i ≤ length l.row) × (l.at ≡ l.start + number_text_size * l.i) × Putting (numbers_text l.row) l.initial.out l.start (numbers_text (drop l.i l.row)) l.out l.at
+
+abbrev pub decreases-loop-i : goal.decreases-loop-i
+decreases-loop-i l = length l.row - l.i

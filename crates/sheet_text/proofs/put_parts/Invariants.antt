@@ -1,0 +1,23 @@
+use mathlib.Core.Path.{◌≡◌, refl, sym, ap, ◌∙◌, subst}
+use mathlib.Core.List.{List, ◌++◌}
+use Prim.Native.Nat.{ℕ, ◌+◌, ◌-◌, ◌*◌, ◌≤◌, ◌<◌}
+use native.Mathlib.Omega.{arith}
+use lib.ListN.{length}
+use lib.Ieee.{Float}
+use Rattle.sheet_data.specs.Layout.{finishes, all_rows}
+use Rattle.sheet_data.specs.Rows.{row_at}
+use Rattle.sheet_text.specs.Bytes.{Put}
+use Rattle.sheet_text.specs.Text.{part_text, part_lines, line_text, part_name}
+use Rattle.sheet_text.proofs.Puts.{Putting, none_put, piece_put, all_put, row_within, row_cells, row_long, part_long, first_part}
+use Rattle.sheet_text.proofs.put_parts.Given as goal
+
+pub record Left (count columns : ℕ) (cells : List Float) (out₀ : List ℕ) (start : ℕ) (out : List ℕ) (at place : ℕ) : Type 0 where
+  pub within : place ≤ count
+  pub bound : at ≤ start + part_text * place
+  pub putting : Putting (part_lines count 0 columns cells) out₀ start (part_lines (count - place) place columns cells) out at
+
+abbrev pub invariant-loop-place : goal.invariant-loop-place
+invariant-loop-place l = Left l.count l.columns l.cells l.initial.out l.start l.out l.at l.place
+
+abbrev pub decreases-loop-place : goal.decreases-loop-place
+decreases-loop-place l = l.count - l.place
