@@ -1,0 +1,15 @@
+use mathlib.Core.Path.{◌≡◌, refl, sym, ap, ◌∙◌}
+use Prim.Native.Nat.{ℕ, ◌+◌, ◌-◌, ◌*◌, ◌≤◌}
+use native.Mathlib.Omega.{arith}
+use lib.ListN.{get_or, drop}
+use borrow.Author.Tests.{lt-ltb, le-ltb}
+use Rattle.sheet_data.specs.Layout.{most_parts}
+use Rattle.cobalnis.specs.Words.{first_part, part_word_count, shapes_known}
+use Rattle.cobalnis.proofs.Turns.{word_at, shapes_step, shapes_stop}
+use Rattle.cobalnis.proofs.words.shapes_known.Given as goal
+
+abbrev pub invariant-loop-i : goal.invariant-loop-i
+invariant-loop-i l = (l.i ≤ most_parts) × (shapes_known most_parts (drop first_part l.words) ≡ shapes_known (most_parts - l.i) (drop (l.i * part_word_count) (drop first_part l.words)))
+
+abbrev pub decreases-loop-i : goal.decreases-loop-i
+decreases-loop-i l = most_parts - l.i
