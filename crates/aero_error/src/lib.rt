@@ -1,6 +1,8 @@
 // The refusals of every layer, with their numbers (docs/REFERENCE.md, Refusals), the tests that give refusal 1 (error.rs), and tests
 // one after another. A test answers `Check`, a formula `Coefficient`; both carry the refusal itself, so that a caller hands it on
 // unread.
+#![tactic(auto)]
+
 ghost use Rattle.std.specs.Prelude.{◌≡◌};
 ghost use Rattle.aero_error.specs.Refusals.{code_of_quantity, number_of_rule, number_of, code_of, refused_value};
 ghost use Rattle.aero_error.specs.Checks.{required, dimension, ◌then◌, unless, ◌and_then◌};

@@ -1,6 +1,8 @@
 // The run over a whole stream of card bytes (docs/REFERENCE.md, Program): one settings card, then part
 // cards, each inserted last, up to the first refusal. `cards` reads a card, and `drag_sheet` makes the
 // call.
+#![tactic(auto)]
+
 ghost use Rattle.std.specs.Prelude.{◌≡◌, ◌≤◌, length};
 ghost use Rattle.sheet_data.specs.Layout.{most_parts};
 ghost use Rattle.sheet_data.specs.Contents.{Fits};

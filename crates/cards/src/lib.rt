@@ -1,5 +1,7 @@
 // Cards (docs/REFERENCE.md, Cards): the bytes of a settings card and of a part card, read from a
 // position of lent bytes. Each function answers what its definition gives, whatever the bytes are.
+#![tactic(auto)]
+
 ghost use Rattle.std.specs.Prelude.{◌≡◌};
 ghost use Rattle.cards.specs.Cards.{takes_parameter, parameter_right, parameter_at, shape_at, roughness_at, last_at, rest_at, part_fields, part_at, no_settings, columns_at, fineness_at, settings_fields, settings_at};
 

@@ -3,8 +3,7 @@ ghost use Rattle.cobalnis.specs.Answers.{ClassShown};
 
 use elementary::FloatClass;
 
-#[unsafe(no_mangle)]
-pub extern "C" fn cobalnis_classify(bits: u64) -> u32
+pub fn cobalnis_classify(bits: u64) -> u32
     ensures { ClassShown bits result }
 {
     match elementary::classify(bits) {

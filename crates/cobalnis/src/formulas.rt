@@ -48,8 +48,7 @@ fn formula_of(which: u32, a: f64, b: f64, c: f64, d: f64, e: f64) -> Formula
 }
 
 // The formula of a number, on as many of the arguments as it has.
-#[unsafe(no_mangle)]
-pub extern "C" fn cobalnis_formula(
+pub fn cobalnis_formula(
     which: u32,
     a: f64,
     b: f64,
@@ -97,8 +96,7 @@ fn quantity_of(code: u32) -> Quantity
 }
 
 // `check_dimension` of a quantity by its code.
-#[unsafe(no_mangle)]
-pub extern "C" fn cobalnis_check_dimension(
+pub fn cobalnis_check_dimension(
     what: u32,
     value: f64,
     allow_zero: bool,
@@ -116,8 +114,7 @@ pub extern "C" fn cobalnis_check_dimension(
     NO_SUCH
 }
 
-#[unsafe(no_mangle)]
-pub extern "C" fn cobalnis_takes_cone_formula(shape: u64, parameter: f64) -> u32
+pub fn cobalnis_takes_cone_formula(shape: u64, parameter: f64) -> u32
     ensures { result ≡ cond (ltb 5 shape) no_such (cond (takes_cone_formula (shape_of shape parameter)) 1 0) }
 {
     if 5 < shape {

@@ -18,8 +18,7 @@ use walk::Walked;
 // ---- Stoney's noses
 
 // The Mach and the drag of a nose's point.
-#[unsafe(no_mangle)]
-pub extern "C" fn cobalnis_nose_point(nose: u32, place: usize, out: &mut [u64; 2]) -> u32
+pub fn cobalnis_nose_point(nose: u32, place: usize, out: &mut [u64; 2]) -> u32
     ensures { (result ≡ point_status nose place) × (out.new ≡ point_words nose place out.old) }
 {
     if nose <= 8 {
@@ -38,8 +37,7 @@ pub extern "C" fn cobalnis_nose_point(nose: u32, place: usize, out: &mut [u64; 2
 }
 
 // A table's value and slope at a Mach, and its first Mach.
-#[unsafe(no_mangle)]
-pub extern "C" fn cobalnis_nose_lookup(nose: u32, mach: f64, out: &mut [u64; 3]) -> u32
+pub fn cobalnis_nose_lookup(nose: u32, mach: f64, out: &mut [u64; 3]) -> u32
     ensures { (result ≡ cond (is_nose nose) 0 no_such) × (out.new ≡ lookup_words nose mach out.old) }
 {
     if nose <= 8 {
@@ -56,8 +54,7 @@ pub extern "C" fn cobalnis_nose_lookup(nose: u32, mach: f64, out: &mut [u64; 3])
 }
 
 // A nose's values at these Machs, in one walk along its table, and how many times a Mach was set against a point.
-#[unsafe(no_mangle)]
-pub extern "C" fn cobalnis_nose_walk(
+pub fn cobalnis_nose_walk(
     nose: u32,
     machs: &[f64],
     answers: &mut [f64],
@@ -146,8 +143,7 @@ fn read_curve(curve: PressureDragCurve, machs: &[f64], out: &mut [u64], said: &m
 }
 
 // A curve by its shape's number, 6 being the step, and its coefficients at these Machs.
-#[unsafe(no_mangle)]
-pub extern "C" fn cobalnis_curve(
+pub fn cobalnis_curve(
     shape: u64,
     parameter: f64,
     fineness_ratio: f64,

@@ -37,8 +37,7 @@ fn part_known(part: &[u64; PART_WORDS], words: &[u64; SHEET_WORDS]) -> bool
 }
 
 // Opens a sheet with the settings of its words; its design is emptied.
-#[unsafe(no_mangle)]
-pub extern "C" fn cobalnis_open(
+pub fn cobalnis_open(
     words: &mut [u64; SHEET_WORDS],
     cells: &mut [f64],
     bits: &mut u64,
@@ -49,8 +48,7 @@ pub extern "C" fn cobalnis_open(
     show(answer, words, bits)
 }
 
-#[unsafe(no_mangle)]
-pub extern "C" fn cobalnis_insert(
+pub fn cobalnis_insert(
     words: &mut [u64; SHEET_WORDS],
     place: usize,
     part: &[u64; PART_WORDS],
@@ -67,8 +65,7 @@ pub extern "C" fn cobalnis_insert(
     refuse(AeroError::Broken(Rule::ReservedBit), bits)
 }
 
-#[unsafe(no_mangle)]
-pub extern "C" fn cobalnis_replace(
+pub fn cobalnis_replace(
     words: &mut [u64; SHEET_WORDS],
     place: usize,
     part: &[u64; PART_WORDS],
@@ -85,8 +82,7 @@ pub extern "C" fn cobalnis_replace(
     refuse(AeroError::Broken(Rule::ReservedBit), bits)
 }
 
-#[unsafe(no_mangle)]
-pub extern "C" fn cobalnis_remove(
+pub fn cobalnis_remove(
     words: &mut [u64; SHEET_WORDS],
     place: usize,
     cells: &mut [f64],
@@ -101,8 +97,7 @@ pub extern "C" fn cobalnis_remove(
     refuse(AeroError::Broken(Rule::ReservedBit), bits)
 }
 
-#[unsafe(no_mangle)]
-pub extern "C" fn cobalnis_set_column(
+pub fn cobalnis_set_column(
     words: &mut [u64; SHEET_WORDS],
     column: usize,
     mach: f64,
@@ -120,8 +115,7 @@ pub extern "C" fn cobalnis_set_column(
     refuse(AeroError::Broken(Rule::ReservedBit), bits)
 }
 
-#[unsafe(no_mangle)]
-pub extern "C" fn cobalnis_ignite(
+pub fn cobalnis_ignite(
     words: &mut [u64; SHEET_WORDS],
     nozzle_diameter: f64,
     cells: &mut [f64],
@@ -136,8 +130,7 @@ pub extern "C" fn cobalnis_ignite(
     refuse(AeroError::Broken(Rule::ReservedBit), bits)
 }
 
-#[unsafe(no_mangle)]
-pub extern "C" fn cobalnis_burnout(
+pub fn cobalnis_burnout(
     words: &mut [u64; SHEET_WORDS],
     cells: &mut [f64],
     bits: &mut u64,

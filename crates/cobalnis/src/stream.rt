@@ -10,8 +10,7 @@ use aero_error::Check;
 use cards::PartRead;
 
 // The settings card at a position of the bytes, as the first words of a sheet, and the position after it.
-#[unsafe(no_mangle)]
-pub extern "C" fn cobalnis_read_settings(
+pub fn cobalnis_read_settings(
     bytes: &[u8],
     at: usize,
     words: &mut [u64; SHEET_WORDS],
@@ -33,8 +32,7 @@ pub extern "C" fn cobalnis_read_settings(
 }
 
 // The part card at a position of the bytes, and the position after it.
-#[unsafe(no_mangle)]
-pub extern "C" fn cobalnis_read_part(
+pub fn cobalnis_read_part(
     bytes: &[u8],
     at: usize,
     words: &mut [u64; PART_WORDS],
@@ -53,8 +51,7 @@ pub extern "C" fn cobalnis_read_part(
 }
 
 // What the program `sheet` prints for these bytes.
-#[unsafe(no_mangle)]
-pub extern "C" fn cobalnis_print(bytes: &[u8], out: &mut [u8]) -> usize
+pub fn cobalnis_print(bytes: &[u8], out: &mut [u8]) -> usize
     ensures { Printed bytes.now out.old result out.new }
 {
     sheet_text::print_stream(bytes, out)

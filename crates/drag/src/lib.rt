@@ -1,5 +1,7 @@
 // Skin friction, stagnation pressure, base drag, joint drag and the boattail rule (drag.rs): the terms of Niskanen's drag buildup
 // as functions of their inputs, with the Rust's names, order of tests and order of operations. Each answers the value or the refusal.
+#![tactic(auto)]
+
 ghost use Rattle.std.specs.Prelude.{◌≡◌, cond};
 ghost use Rattle.drag.specs.Friction.{mach_checked, machs_test, flow_checked, turbulent_friction, critical_reynolds, limited_friction, wall_of, on_wall, incompressible_skin_friction, friction_on, skin_friction_coefficient, body_friction_form_factor};
 ghost use Rattle.drag.specs.Walls.{limited_from, wall_at};

@@ -1,6 +1,8 @@
 // The drag sheet (docs/REFERENCE.md, Sheet, Rows and Calls): open, replace, insert, remove, set column, ignite and burnout. A sheet goes by value; the cells
 // are lent. A call first tests and builds all that it needs in memory of its own, and only then writes the lent cells, so a refused call
 // leaves them as they were.
+#![tactic(auto)]
+
 ghost use Rattle.std.specs.Prelude.{◌≡◌, ◌+◌, ◌<◌, length};
 ghost use Rattle.aero_error.specs.declared.Check.TheVariants.{Passed};
 ghost use Rattle.sheet_data.specs.Contents.{contents_of, Fits};

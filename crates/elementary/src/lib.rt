@@ -2,6 +2,8 @@
 // original holds: `sqrt`, `ln`, `exp`, `powf` and `sin` on every `f64`, NaN and infinities among
 // them. Each is proved equal to its definition in specs/Steps.antt. Beside them stand the tests and
 // the choice on floats that every formula may need (specs/Tests.antt), and a float's class (specs/Classes.antt).
+#![tactic(auto)]
+
 ghost use Rattle.std.specs.Prelude.{◌≡◌, false, ◌≤◌, ◌^◌};
 ghost use Rattle.std.specs.Float.{nan, inf, binary64};
 ghost use Rattle.std.specs.Float.Ieee.{to_bits, of_bits, minus};

@@ -12,6 +12,8 @@
 //
 // The list, `stdin` beside this folder, is made in compare/:
 //     cargo run --release --offline --bin formula_list > ../crates/formula_vectors/stdin
+#![tactic(auto)]
+
 ghost use Rattle.std.specs.Prelude.{◌≡◌};
 ghost use Rattle.formula_vectors.specs.Lines.{named, float_at, is_answer, formula_at, dimension_at, cone_at, point_at, lookup_at, curve_at, asked, line_agrees, kind_of, after_line};
 
@@ -19,8 +21,7 @@ use cobalnis::{
     cobalnis_check_dimension, cobalnis_curve, cobalnis_formula, cobalnis_nose_lookup,
     cobalnis_nose_point, cobalnis_takes_cone_formula,
 };
-use libc::STDIN_FILENO;
-use replay::{Counts, is_line, tag_of, word_at};
+use replay::{Counts, STDIN_FILENO, is_line, tag_of, word_at};
 
 // ---- arguments and answers
 

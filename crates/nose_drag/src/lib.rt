@@ -1,5 +1,7 @@
 // Pressure drag of noses, shoulders and steps at every Mach number (nose_drag.rs): Niskanen's semi-empirical method (2009, eq. 3.86, 3.87 and
 // appendix B), with Stoney's measured curves for the shapes that have no closed form. Names, order of tests and order of operations are the Rust's.
+#![tactic(auto)]
+
 mod builder;
 mod cone;
 mod curve;

@@ -1,10 +1,14 @@
 // Checks the last two rows of docs/REFERENCE.md, Values, by running: a line for each, compared with the file stdout. The others are a theorem,
 // in specs/.
+#![tactic(auto)]
+
 use aero_error::Coefficient;
 use drag::joint_pressure_drag_coefficient;
-use libc::STDOUT_FILENO;
 use nose_drag::{Curve, PressureDragCurve};
 use shapes::NoseShape;
+
+// The descriptor of standard output.
+const STDOUT_FILENO: i32 = 1;
 
 // A number below 100 in one or two digits.
 fn write_number(n: u8) {

@@ -1,10 +1,15 @@
 // What the programs that replay stored answers share: the words of a line, and the counts that are printed. A line is a tag, eleven
 // words of 16 hexadecimal digits with a space in front of each, and a line feed: 189 bytes.
+#![tactic(auto)]
+
 ghost use Rattle.std.specs.Prelude.{◌≡◌, ◌≤◌, ◌<◌, length, get_or};
 ghost use Rattle.replay.specs.Words.{digit_of, digits_of, field_at, is_number, word_at, is_line};
 ghost use Rattle.replay.specs.Counts.{no_counts, counted_on, slot_of, counted, tally_of, tally_of_all};
 
-use libc::STDOUT_FILENO;
+// The descriptors of standard input and output.
+pub const STDIN_FILENO: i32 = 0;
+
+pub const STDOUT_FILENO: i32 = 1;
 
 // What the bytes of a word spell.
 #[derive(Clone, Copy)]

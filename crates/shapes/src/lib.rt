@@ -1,5 +1,7 @@
 // The shape of a nose cone (shapes.rs), with the shapes' numbers (docs/REFERENCE.md, Nose formulas). Nothing
 // else of shapes.rs is here.
+#![tactic(auto)]
+
 ghost use Rattle.std.specs.Prelude.{◌≡◌};
 ghost use Rattle.shapes.specs.Numbers.{number_of_shape, shape_of, parameter_of, von_karman, lv_haack};
 

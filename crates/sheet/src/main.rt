@@ -1,6 +1,8 @@
 // The program `sheet` (docs/REFERENCE.md, Program): card bytes on standard input, the lines of the
 // sheet or `refused N card K` on standard output. It reads, calls `print_read`, whose contract is
 // about both buffers' sizes, and writes.
+#![tactic(auto)]
+
 use card_run::STREAM_BYTES;
 use sheet_text::MOST_TEXT;
 

@@ -1,6 +1,8 @@
 // What a sheet is (docs/REFERENCE.md, Sheet): settings, parts, design and sheet, their bounds, and the tests that a sheet given has
 // to pass. `layout` says where the cells lie. All go by value; an array has room for as many as there may be, and what stands past
 // the count is not looked at.
+#![tactic(auto)]
+
 ghost use Rattle.std.specs.Prelude.{◌≡◌};
 ghost use Rattle.sheet_data.specs.Contents.{empty_part, blank};
 

@@ -1,6 +1,8 @@
 // Runs many streams of card bytes and prints what `sheet` would print for each. Standard input holds
 // the streams one after the other, each after its length in two bytes, low byte first;
 // `streams.py write > stdin` in this crate's folder makes it.
+#![tactic(auto)]
+
 ghost use Rattle.std.specs.Prelude.{◌<◌};
 
 use sheet_text::MOST_TEXT;

@@ -1,5 +1,7 @@
 // The text of a sheet: the lines that the program `sheet` prints for a stream of card bytes, put
 // into a lent buffer. Each function writes from a place on and answers the place after its text.
+#![tactic(auto)]
+
 ghost use Rattle.std.specs.Prelude.{◌≡◌, [], ◌∷◌, ◌++◌, ◌+◌, ◌*◌, ◌≤◌, ◌<◌, length, take};
 ghost use Rattle.aero_error.specs.declared.Check.TheVariants.{Passed};
 ghost use Rattle.sheet_data.specs.Layout.{most_parts, most_columns, finishes, all_rows, needed};

@@ -18,14 +18,15 @@
 //
 // The list, `stdin` beside this folder, is made in compare/:
 //     cargo run --release --offline --bin sheet_list > ../crates/sheet_vectors/stdin
+#![tactic(auto)]
+
 use cobalnis::{
     FIRST_PART, MACHS_AT, NOZZLE_AT, PART_WORDS, PARTS_AT, REYNOLDS_AT, SHEET_WORDS,
     cobalnis_burnout, cobalnis_ignite, cobalnis_insert, cobalnis_open, cobalnis_remove,
     cobalnis_replace, cobalnis_set_column,
 };
 use elementary::{from_bits, to_bits};
-use libc::STDIN_FILENO;
-use replay::{Counts, is_line, tag_of, word_at};
+use replay::{Counts, STDIN_FILENO, is_line, tag_of, word_at};
 use sheet_data::layout::{CELLS, COLUMNS, PARTS};
 
 // ---- the state's number

@@ -1,5 +1,7 @@
 // Stoney's nine measured noses (NASA TR R-100, 1961, figure 12, fineness 3) as points of Mach and pressure drag, and the value and slope that a
 // table gives at any Mach number (nose_drag.rs, `StoneyNose`). Two flat arrays hold the points of all nine, and each nose has its range in them.
+#![tactic(auto)]
+
 ghost use Rattle.std.specs.Prelude.{◌≡◌};
 ghost use Rattle.stoney.specs.Tables.{nose_at};
 ghost use Rattle.stoney.specs.Points.{mach_at, drag_at, range_of, first_mach};

@@ -1,6 +1,8 @@
 // A whole flight in one pass (docs/REFERENCE.md, Walk): the values of one of Stoney's tables at up to 256 Mach numbers, each at or above the one
 // before, in one walk along the table, with the number of times that a query was set against a table point. All is tested before the first
 // answer is written.
+#![tactic(auto)]
+
 ghost use Rattle.std.specs.Prelude.{◌≡◌, ◌≤◌, length};
 ghost use Rattle.stoney.specs.Stored.{Stored};
 ghost use Rattle.walk.specs.Tests.{given_test, rising_test, most_queries};

@@ -9,12 +9,13 @@
 //
 // The list, `stdin` beside this folder, is made in compare/:
 //     cargo run --release --offline --bin walk_list > ../crates/walk_vectors/stdin
+#![tactic(auto)]
+
 ghost use Rattle.std.specs.Prelude.{◌≡◌, length};
 
 use cobalnis::cobalnis_nose_walk;
 use elementary::{from_bits, to_bits};
-use libc::STDIN_FILENO;
-use replay::{Counts, is_line, tag_of, word_at};
+use replay::{Counts, STDIN_FILENO, is_line, tag_of, word_at};
 use walk::QUERIES;
 
 // Room for one query too many.
