@@ -48,15 +48,7 @@ fn formula_of(which: u32, a: f64, b: f64, c: f64, d: f64, e: f64) -> Formula
 }
 
 // The formula of a number, on as many of the arguments as it has.
-pub fn cobalnis_formula(
-    which: u32,
-    a: f64,
-    b: f64,
-    c: f64,
-    d: f64,
-    e: f64,
-    bits: &mut u64,
-) -> u32
+pub fn cobalnis_formula(which: u32, a: f64, b: f64, c: f64, d: f64, e: f64, bits: &mut u64) -> u32
     ensures { (result ≡ formula_status (formula_of which a b c d e)) × (bits.new ≡ formula_bits (formula_of which a b c d e) bits.old) }
 {
     match formula_of(which, a, b, c, d, e) {
@@ -96,12 +88,7 @@ fn quantity_of(code: u32) -> Quantity
 }
 
 // `check_dimension` of a quantity by its code.
-pub fn cobalnis_check_dimension(
-    what: u32,
-    value: f64,
-    allow_zero: bool,
-    bits: &mut u64,
-) -> u32
+pub fn cobalnis_check_dimension(what: u32, value: f64, allow_zero: bool, bits: &mut u64) -> u32
     ensures { (result ≡ dimension_status what (dimension value allow_zero)) × (bits.new ≡ dimension_bits what (dimension value allow_zero) value bits.old) }
 {
     if what == 0 {

@@ -37,11 +37,7 @@ fn part_known(part: &[u64; PART_WORDS], words: &[u64; SHEET_WORDS]) -> bool
 }
 
 // Opens a sheet with the settings of its words; its design is emptied.
-pub fn cobalnis_open(
-    words: &mut [u64; SHEET_WORDS],
-    cells: &mut [f64],
-    bits: &mut u64,
-) -> u32
+pub fn cobalnis_open(words: &mut [u64; SHEET_WORDS], cells: &mut [f64], bits: &mut u64) -> u32
     ensures { OpenShown words.old cells.old result words.new bits.new cells.new }
 {
     let answer = drag_sheet::open(words::settings_of(words), cells);
@@ -130,11 +126,7 @@ pub fn cobalnis_ignite(
     refuse(AeroError::Broken(Rule::ReservedBit), bits)
 }
 
-pub fn cobalnis_burnout(
-    words: &mut [u64; SHEET_WORDS],
-    cells: &mut [f64],
-    bits: &mut u64,
-) -> u32
+pub fn cobalnis_burnout(words: &mut [u64; SHEET_WORDS], cells: &mut [f64], bits: &mut u64) -> u32
     ensures { CallDone (sheet_known words.old) burnout_call words.old cells.old result words.new bits.new cells.new }
 {
     if words::shapes_known(words) {

@@ -94,7 +94,15 @@ pub extern "C" fn cobalnis_curve(
 ) -> u32
     ensures { CurveAnswered (ltb 6 shape) (curve_from shape parameter fineness_ratio joint_angle_rad) machs.now out.old said.old result out.new said.new }
 {
-    cobalnis::cobalnis_curve(shape, parameter, fineness_ratio, joint_angle_rad, machs, out, said)
+    cobalnis::cobalnis_curve(
+        shape,
+        parameter,
+        fineness_ratio,
+        joint_angle_rad,
+        machs,
+        out,
+        said,
+    )
 }
 
 #[unsafe(no_mangle)]

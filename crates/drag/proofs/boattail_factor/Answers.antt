@@ -17,11 +17,11 @@ tests : (c : After-then-check) → let a = c.args in
 tests c =
     let a = c.args in
     let fore : c.if-is_finite.ok ≡ (finite a.fore_diameter_m && a.aft_diameter_m ≺ a.fore_diameter_m) =
-      simp (← c.is_finite.ensures)
-      (elim c.if-is_finite.branch [
-        | then-is_finite w ↦ simp (w.ok-is, w.if-is_finite.true)
-        | else-is_finite w ↦ simp (w.ok-is, w.if-is_finite.false)
-      ]) in
+    simp (← c.is_finite.ensures)
+    (elim c.if-is_finite.branch [
+      | then-is_finite w ↦ simp (w.ok-is, w.if-is_finite.true)
+      | else-is_finite w ↦ simp (w.ok-is, w.if-is_finite.false)
+    ]) in
     simp (← fore, ← c.check_dimension.ensures, ← c.check_dimension-2.ensures, ← c.require.ensures, ← c.then.ensures) c.then-check.ensures
 
 pub returns-in-Failed : goal.returns-in-Failed

@@ -1,0 +1,48 @@
+-- `formula_vectors::curve` meets its contract.
+use mathlib.Core.Path.{◌≡◌, ◌∙◌}
+use mathlib.Core.Bool.{Bool, true, false}
+use mathlib.Core.List.{List, [], ◌∷◌}
+use Prim.Native.Nat.{ℕ}
+use lib.Dec.{ltb}
+use lib.ListN.{get_or}
+use lib.Ieee.{Float}
+use Rattle.aero_error.specs.declared.Check.{Check}
+use Rattle.aero_error.specs.declared.Check.TheVariants.{Passed, Failed}
+use Rattle.drag.specs.Friction.{mach_checked, machs_test}
+use Rattle.aero_error.specs.Checks.{up_to}
+use Rattle.nose_drag.specs.declared.curve.PressureDragCurve.{PressureDragCurve}
+use Rattle.nose_drag.specs.declared.builder.Curve.{Curve}
+use Rattle.nose_drag.specs.declared.builder.Curve.TheVariants.{Built, Refused as NotBuilt}
+use Rattle.cobalnis.specs.Words.{spread}
+use Rattle.cobalnis.specs.Answers.{curve_from, ReadAt, CurveAnswered}
+use Rattle.formula_vectors.specs.Lines.{read_answer, curve_answer, curve_words, curve_at}
+use Rattle.formula_vectors.proofs.curve.Goals as goal
+
+-- the status and the words that a curve leaves
+abbrev five : ℕ → List ℕ → List ℕ → List ℕ
+five r ys said = r ∷ get_or ys 0 0 ∷ get_or said 0 0 ∷ get_or said 1 0 ∷ get_or said 2 0 ∷ []
+
+read_words : (t : Check) (curve : PressureDragCurve) (M : Float) (r : ℕ) (ys said : List ℕ)
+    → ReadAt t curve (M ∷ []) (0 ∷ []) r ys said → five r ys said ≡ read_answer t curve M
+unfolding spread
+read_words Passed curve M r ys said (a, b, d) = rw (a, b, d)
+read_words (Failed e) curve M r ys said (a, b, d) = rw (a, b, d)
+
+answer_words : (none : Bool) (curve : Curve) (M : Float) (r : ℕ) (ys said : List ℕ)
+    → CurveAnswered none curve (M ∷ []) (0 ∷ []) (0 ∷ 0 ∷ 0 ∷ []) r ys said → five r ys said ≡ curve_answer none curve M
+unfolding machs_test up_to
+answer_words true curve M r ys said (a, b, d) = rw (a, b, d)
+answer_words false (NotBuilt e) M r ys said (a, b, d) = rw (a, b, d)
+answer_words false (Built curve) M r ys said h = read_words (mach_checked M) curve M r ys said h
+
+words_shown : (shape : ℕ) (parameter fineness angle M : Float) (r : ℕ) (ys said : List ℕ)
+    → CurveAnswered (ltb 6 shape) (curve_from shape parameter fineness angle) (M ∷ []) (0 ∷ []) (0 ∷ 0 ∷ 0 ∷ []) r ys said
+    → five r ys said ≡ curve_words shape parameter fineness angle M
+unfolding curve_words
+words_shown shape parameter fineness angle M r ys said h = answer_words (ltb 6 shape) (curve_from shape parameter fineness angle) M r ys said h
+
+pub returns : goal.returns
+unfolding curve_at
+returns = λ c.
+    let h = words_shown c.word_at-shape.result c.float_at-parameter.result c.float_at-fineness.result c.float_at-angle.result c.float_at.result _ _ _ c.cobalnis_curve-status.ensures in
+    h ∙ simp (c.word_at-shape.ensures, c.float_at-parameter.ensures, c.float_at-fineness.ensures, c.float_at-angle.ensures, c.float_at.ensures)

@@ -1,0 +1,8 @@
+use native.Mathlib.Omega.{arith}
+use Rattle.formula_vectors.proofs.replay_all.Given as goal
+
+abbrev pub invariant-loop-turns : goal.invariant-loop-turns
+invariant-loop-turns l = Unit {0}
+
+abbrev pub decreases-loop-turns : goal.decreases-loop-turns
+decreases-loop-turns l = l.turns
