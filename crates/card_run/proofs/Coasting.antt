@@ -1,8 +1,8 @@
 -- No card carries a nozzle diameter, so a stream's answer is the one of document 01: every sheet of a run coasts (then its tests are those without a nozzle diameter,
 -- `coasting_tests` of `drag_sheet`), and the base row of an accepted stream is "base drag at M × ((last d × last d)/(D×D))".
-use mathlib.Core.Path.{◌≡◌, refl, sym, ap, ◌∙◌}
+use mathlib.Core.Path.{◌≡◌, refl, sym, ◌∙◌}
 use mathlib.Core.Bool.{Bool, true, false, cond}
-use mathlib.Core.List.{List, [], ◌∷◌}
+use mathlib.Core.List.{List}
 use Prim.Native.Nat.{ℕ, zero, suc}
 use native.Mathlib.Omega.{arith}
 use lib.ListN.{length}
@@ -16,7 +16,7 @@ use Rattle.drag.specs.Pressure.{base_drag_coefficient}
 use Rattle.sheet_data.specs.declared.Part.{Part}
 use Rattle.sheet_data.specs.declared.Sheet.{Sheet}
 use Rattle.sheet_data.specs.Layout.{finishes, base_row, all_rows}
-use Rattle.sheet_data.specs.Contents.{Contents, mach_at, contents_of, blank}
+use Rattle.sheet_data.specs.Contents.{mach_at, contents_of, blank}
 use Rattle.sheet_data.specs.Tests.{settings_test}
 use Rattle.sheet_data.specs.Tables.{tab, tab_same}
 use Rattle.sheet_data.specs.Rows.{row_at}

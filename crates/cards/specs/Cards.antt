@@ -1,7 +1,7 @@
 -- The two cards (docs/REFERENCE.md, Cards), read from a list of bytes at a position, in the order given there: "Card bytes: left to right, bits first,
 -- settings' missing bits next, the parameter bit once the shape is read, 7 at the count byte". A card answers its content and the position after it, or its
 -- refusal.
-use Rattle.std.specs.Prelude.{Bool, true, false, cond, not, List, ◌++◌, ℕ, ◌+◌, ◌-◌, ◌*◌, length, replicate, ltb, eqb, Float}
+use Rattle.std.specs.Prelude.{Bool, true, false, cond, not, List, ◌++◌, ℕ, ◌+◌, ◌-◌, ◌*◌, replicate, ltb, eqb, Float}
 use Rattle.std.proofs.Math.Option.{Option, none, some}
 use Rattle.elementary.specs.Constants.{0·0}
 use Rattle.aero_error.specs.declared.AeroError.{AeroError}

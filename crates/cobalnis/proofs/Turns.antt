@@ -6,7 +6,7 @@ use Prim.Native.Nat.{ℕ, zero, suc, ◌+◌, ◌-◌, ◌*◌, ◌<◌}
 use native.Mathlib.Numerals.{add-one}
 use native.Mathlib.Nat.{suc-mul, zero-mul}
 use native.Mathlib.Omega.{arith}
-use lib.ListN.{length, set, get_or, drop, replicate, length-append, drop_of_length-le}
+use lib.ListN.{length, set, get_or, drop, length-append, drop_of_length-le}
 use lib.Seq.{sets, sets-eq, drop-cons, drop-drop, get_or-drop}
 use lib.Dec.{ltb}
 use Rattle.sheet_data.specs.Tables.{tab, tab_same}

@@ -15,7 +15,7 @@ use Rattle.elementary.specs.Arithmetic.{◌⊗◌}
 use Rattle.aero_error.specs.declared.Coefficient.{Coefficient}
 use Rattle.drag.specs.declared.Wall.{Wall}
 use Rattle.drag.specs.declared.Flow.{Flow}
-use Rattle.drag.specs.Friction.{wall_of, friction_on, skin_friction_coefficient, body_friction_form_factor, on_wall_lem}
+use Rattle.drag.specs.Friction.{wall_of, friction_on, body_friction_form_factor, on_wall_lem}
 use Rattle.drag.specs.Flows.{friction_in, in_flow}
 use Rattle.sheet_data.specs.declared.Settings.{Settings}
 use Rattle.sheet_data.specs.declared.PartRoughness.{PartRoughness}

@@ -1,7 +1,7 @@
 -- From what a call's functions say to what its contract says: what passed tests show, a refused call, all rows written, the rows of a replaced part written.
 use mathlib.Core.Path.{◌≡◌, refl, sym, ap, ◌∙◌}
 use mathlib.Core.List.{List}
-use Prim.Native.Nat.{ℕ, ◌-◌, ◌≤◌, ◌<◌}
+use Prim.Native.Nat.{ℕ, ◌≤◌, ◌<◌}
 use lib.ListN.{length, drop}
 use lib.Seq.{take_at}
 use lib.Dec.{ltb, leb}

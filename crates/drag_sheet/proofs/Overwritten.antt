@@ -1,9 +1,9 @@
 -- What is written over lent cells, for every scope. Cells hold a build where each row is the build's; rows written over cells whose other rows are those of the
 -- contents as they are left, a column over cells that held all other columns, or all rows, leave cells that hold the build of the contents. No other cell is written.
-use mathlib.Core.Path.{◌≡◌, refl, sym, ap, ◌∙◌}
+use mathlib.Core.Path.{◌≡◌, sym, ap, ◌∙◌}
 use mathlib.Core.Logic.{dite, ◌≢◌}
-use mathlib.Core.List.{List, [], ◌∷◌, ◌++◌}
-use Prim.Native.Nat.{ℕ, zero, suc, ◌+◌, ◌-◌, ◌*◌, ◌≤◌, ◌<◌}
+use mathlib.Core.List.{List}
+use Prim.Native.Nat.{ℕ, ◌-◌, ◌*◌, ◌≤◌, ◌<◌}
 use native.Mathlib.Decide.{dec_lt}
 use native.Mathlib.Omega.{arith}
 use lib.ListN.{length, get_or, take, drop, set, length-set, length-drop}
@@ -14,9 +14,8 @@ use Rattle.sheet_data.specs.Contents.{Contents, mach_at, reynolds_at}
 use Rattle.sheet_data.specs.Tables.{tab, tab_long, tab_at, tab_same, tab_set}
 use Rattle.sheet_data.specs.Rows.{from, Unnamed, Below, row_at, written, rows_written}
 use Rattle.sheet_data.specs.RowLaws.{room, before_named, before_all, below_more, from_below, written_long, Wrote, wrote, laid_long, laid_rows, rows_laid}
-use Rattle.drag_sheet.specs.Build.{part, friction, base, total, kind_at, part_cell, kind_cell, total_of, cell_at, row_of, build}
-use Rattle.drag_sheet.specs.Writing.{Scope, rows, column, whole, there, total_there, totalled, column_put, overwritten}
-use Rattle.drag_sheet.specs.Formulas.{sum_to, friction_cell, base_cell}
+use Rattle.drag_sheet.specs.Build.{part_cell, kind_cell, cell_at, row_of, build}
+use Rattle.drag_sheet.specs.Writing.{Scope, rows, column, whole, there, total_there, totalled, overwritten}
 use Rattle.drag_sheet.proofs.Sums.{sum_same}
 use Rattle.drag_sheet.proofs.RowKinds.{kind_part, kind_friction, kind_base, kind_total, row_wide}
 

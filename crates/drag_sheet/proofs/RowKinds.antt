@@ -2,19 +2,19 @@
 use mathlib.Core.Path.{◌≡◌, refl, sym, ap, ◌∙◌, subst}
 use mathlib.Core.Logic.{dite}
 use mathlib.Core.List.{List}
-use Prim.Native.Nat.{ℕ, zero, suc, ◌+◌, ◌-◌, ◌≤◌, ◌<◌}
+use Prim.Native.Nat.{ℕ, zero, suc, ◌-◌, ◌≤◌, ◌<◌}
 use native.Mathlib.Decide.{dec_lt}
 use native.Mathlib.Omega.{arith}
 use lib.ListN.{length, take, replicate}
 use lib.Ieee.{Float}
 use borrow.Author.Tests.{lt-ltb, le-ltb, eq-eqb, ne_eqb}
-use Rattle.sheet_data.specs.Layout.{most_parts, finishes, friction_row, base_row, total_row, all_rows}
+use Rattle.sheet_data.specs.Layout.{most_parts, finishes, friction_row, base_row, total_row}
 use Rattle.sheet_data.specs.declared.Part.{Part}
 use Rattle.sheet_data.specs.Contents.{Contents, fore_at, part_taken}
-use Rattle.sheet_data.specs.Tables.{tab, tab_long, tab_same, tab_constant}
+use Rattle.sheet_data.specs.Tables.{tab_long, tab_same, tab_constant}
 use Rattle.elementary.specs.Constants.{0·0}
 use Rattle.drag_sheet.specs.Formulas.{friction_cell}
-use Rattle.drag_sheet.specs.Build.{Kind, part, friction, base, total, kind_at, prepared_at, part_cell, kind_cell, row_from, row_test, trial, row_of}
+use Rattle.drag_sheet.specs.Build.{part, friction, base, total, kind_at, prepared_at, part_cell, kind_cell, row_from, row_test, trial, row_of}
 use Rattle.drag_sheet.specs.Calls.{with_nozzle}
 
 pub kind_part : (F r : ℕ) → r < most_parts → kind_at F r ≡ part r

@@ -5,7 +5,7 @@ use Prim.Native.Nat.{ℕ, suc, ◌+◌, ◌-◌, ◌≤◌, ◌<◌}
 use native.Mathlib.Numerals.{add-one}
 use native.Mathlib.Omega.{arith}
 use lib.ListN.{length, get_or, take, drop, set, length-append, length-drop, take-append-drop}
-use lib.Seq.{take-suc, drop-cons, set_split, take_at, take-add, take-take, drop_at, drop-drop, length-take-le, get_or-append-add, get_or-drop, get_or-take}
+use lib.Seq.{take-suc, set_split, take_at, take-add, take-take, drop_at, drop-drop, length-take-le, get_or-append-add, get_or-drop}
 use Rattle.sheet_data.specs.declared.Part.{Part}
 use Rattle.drag_sheet.specs.Calls.{insert_at, remove_at}
 

@@ -1,5 +1,5 @@
 -- The functions that fill a row are lent the columns that count: a row over them is the row of the settings.
-use mathlib.Core.Path.{◌≡◌, refl, sym, ap, ◌∙◌}
+use mathlib.Core.Path.{◌≡◌, refl, sym, ap}
 use mathlib.Core.List.{List, ◌∷◌}
 use Prim.Native.Nat.{ℕ, ◌≤◌}
 use lib.ListN.{length, take, get_or, replicate}

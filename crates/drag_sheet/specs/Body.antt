@@ -1,6 +1,6 @@
 -- The rows of the whole body as the code works them out: the base with its share of the reference area, and the friction with what each column and each roughness
 -- decides worked out once.
-use Rattle.std.specs.Prelude.{◌≡◌, Bool, true, false, ◌||◌, List, ℕ, zero, suc, ◌≤◌, ◌<◌, length, get_or, replicate, Float}
+use Rattle.std.specs.Prelude.{◌≡◌, Bool, true, false, ◌||◌, List, ℕ, zero, suc, ◌≤◌, ◌<◌, get_or, replicate, Float}
 use Rattle.std.specs.Float.{nan}
 use Rattle.elementary.specs.Arithmetic.{◌⊕◌, ◌⊗◌}
 use Rattle.elementary.specs.Constants.{0·0}

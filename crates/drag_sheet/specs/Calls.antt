@@ -16,7 +16,7 @@ use Rattle.sheet_data.specs.Tests.{part_test, nozzle_test, settings_test, sheet_
 use Rattle.sheet_data.specs.Rows.{from}
 use Rattle.drag_sheet.specs.declared.Answer.{Answer}
 use Rattle.drag_sheet.specs.Formulas.{cell_from, ready_test, made_test}
-use Rattle.drag_sheet.specs.Build.{prepared_at, row_test, trial, build}
+use Rattle.drag_sheet.specs.Build.{prepared_at, row_test, trial}
 use Rattle.drag_sheet.specs.Writing.{chosen, Scope, rows, column, whole, overwritten}
 
 -- what is asked of a sheet

@@ -1,7 +1,7 @@
 -- How large the sums, products and quotients of bounded floats are. `Within n x`: x is finite, and at most n in size. Each law asks that the bound of the result is itself
 -- a float (`Fine`), which `small` and `power` say of whole numbers below 2 ^ 53 and of powers of two.
 use mathlib.Core.Path.{◌≡◌, ap, ◌∙◌}
-use Prim.Native.Nat.{ℕ, zero, suc, ◌+◌, ◌-◌, ◌*◌, ◌≤◌, ◌<◌}
+use Prim.Native.Nat.{ℕ, zero, suc, ◌+◌, ◌*◌, ◌≤◌, ◌<◌}
 use native.Mathlib.Nat.{mul_assoc, mul_comm, mul_left_comm, add-mul, mul-pos, mul-le-mul, mul-le-mul_right, le_trans, le_of_eq, zero-mul, mul-zero}
 use native.Mathlib.Omega.{arith}
 use lib.Dec.{T}

@@ -1,6 +1,6 @@
 -- `root_of` is the whole part of the square root, and the loop's step keeps it so.
 use mathlib.Core.Path.{◌≡◌, refl, sym, ap, ◌∙◌, subst, subst₂}
-use mathlib.Core.Bool.{Bool, true, false, cond}
+use mathlib.Core.Bool.{cond}
 use Prim.Native.Nat.{ℕ, zero, suc, ◌+◌, ◌-◌, ◌*◌, ◌/◌, ◌%◌, ◌^◌, ◌≤◌, ◌<◌}
 use native.Mathlib.Nat.{pow-suc, mul-add, add-mul, mul_comm, mul_right_comm, mul-mul-mul_comm, mul-le-mul, div-add-mod', div-lt_iff_lt-mul, zero-lt-suc}
 use lib.Arith.{lt-one}

@@ -3,7 +3,7 @@
 -- all false where a NaN stands. What they mean is `lib.Ieee`'s text; nothing is defined anew here.
 use Rattle.std.specs.Prelude.{ℕ, Bool, pos, Float}
 use Rattle.std.specs.Float.{binary64}
-use Rattle.std.specs.Float.Ieee.{add, sub, mul, div, neg, lt, le, eq, of_bits, of_int}
+use Rattle.std.specs.Float.Ieee.{add, sub, mul, div, lt, le, eq, of_bits, of_int}
 
 infixl 65 ◌⊕◌ ◌⊖◌
 infixl 70 ◌⊗◌ ◌⊘◌

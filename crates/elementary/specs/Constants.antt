@@ -2,7 +2,7 @@
 -- program stores. `constants_nearest` shows once, by computing, that each pattern of bits is the binary64 number nearest to its decimal.
 use Rattle.std.specs.Prelude.{◌≡◌, refl, List, [], ◌∷◌, map, false, ℕ, ◌^◌, Float}
 use Rattle.std.specs.Float.{binary64}
-use Rattle.std.specs.Float.Ieee.{round, of_bits, neg}
+use Rattle.std.specs.Float.Ieee.{round, of_bits}
 use Rattle.elementary.specs.Arithmetic.{bits}
 
 -- 0

@@ -1,6 +1,6 @@
 -- The fixed steps (docs/REFERENCE.md, Fixed steps), line by line: SQRT, LN, EXP, POW and SIN on every binary64 number. One rounding an operation, in the order
 -- written.
-use Rattle.std.specs.Prelude.{Bool, true, false, cond, ◌||◌, List, [], ◌∷◌, ℕ, ◌+◌, ◌-◌, ◌*◌, ◌/◌, ◌%◌, ◌^◌, pos, eqb, Float}
+use Rattle.std.specs.Prelude.{false, cond, ◌||◌, List, [], ◌∷◌, ℕ, ◌+◌, ◌-◌, ◌*◌, ◌/◌, ◌%◌, ◌^◌, pos, eqb, Float}
 use Rattle.std.specs.Float.{nan, inf, fin}
 use Rattle.std.specs.Float.Ieee.{neg, is_nan, minus}
 use Rattle.elementary.specs.declared.split.Positive.{Positive}

@@ -1,5 +1,5 @@
 -- `card_run::run_parts` meets its contract: at each turn all the part cards from there on come to what all of them came to at the start.
-use Prim.Native.Nat.{ℕ, ◌-◌}
+use Prim.Native.Nat.{ℕ}
 use Rattle.sheet_data.specs.Contents.{Fits}
 use Rattle.card_run.specs.Run.{stopped, run_stopped, all_part_cards}
 use Rattle.aero_error.specs.declared.Check.TheVariants.{Failed}

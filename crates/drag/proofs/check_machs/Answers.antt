@@ -1,13 +1,8 @@
 -- `check_machs` meets its contract: the Machs before i have passed.
-use mathlib.Core.Path.{◌≡◌, sym, ◌∙◌}
-use Prim.Native.Nat.{◌-◌, ◌≤◌}
+use mathlib.Core.Path.{sym, ◌∙◌}
 use native.Mathlib.Omega.{arith}
-use lib.ListN.{length, get_or}
-use lib.Ieee.{nan}
-use Rattle.aero_error.specs.declared.Check.TheVariants.{Passed}
-use Rattle.aero_error.specs.Checks.{up_to}
 use Rattle.aero_error.specs.CheckLaws.{up_none, up_more, up_failed, up_end}
-use Rattle.drag.specs.Friction.{mach_checked, machs_test}
+use Rattle.drag.specs.Friction.{machs_test}
 use Rattle.drag.proofs.check_machs.Goals as goal
 
 pub returns-in_default : goal.returns-in_default

@@ -1,12 +1,10 @@
-use mathlib.Core.Path.{◌≡◌, sym, ◌∙◌}
+use mathlib.Core.Path.{◌≡◌}
 use Prim.Native.Nat.{◌-◌, ◌≤◌}
-use native.Mathlib.Omega.{arith}
 use lib.ListN.{length, get_or}
 use lib.Ieee.{nan}
 use Rattle.aero_error.specs.declared.Check.TheVariants.{Passed}
 use Rattle.aero_error.specs.Checks.{up_to}
-use Rattle.aero_error.specs.CheckLaws.{up_none, up_more, up_failed, up_end}
-use Rattle.drag.specs.Friction.{mach_checked, machs_test}
+use Rattle.drag.specs.Friction.{mach_checked}
 use Rattle.drag.proofs.check_machs.Given as goal
 
 abbrev pub invariant-loop-i : goal.invariant-loop-i

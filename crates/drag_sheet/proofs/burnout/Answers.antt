@@ -1,6 +1,6 @@
 -- `burnout` meets its contract.
 use mathlib.Core.Path.{refl, sym, ◌∙◌}
-use lib.ListN.{length, length-map}
+use lib.ListN.{length}
 use Rattle.aero_error.specs.CheckLaws.{then_passed}
 use Rattle.drag_sheet.specs.Calls.{burnout, tries}
 use Rattle.drag_sheet.proofs.Answers.{sheet_fits}

@@ -1,6 +1,6 @@
 -- `ignite` meets its contract.
 use mathlib.Core.Path.{refl, sym, ◌∙◌}
-use lib.ListN.{length, length-map}
+use lib.ListN.{length}
 use Rattle.drag_sheet.specs.Calls.{ignite, tries}
 use Rattle.drag_sheet.proofs.Answers.{call_facts}
 use Rattle.drag_sheet.proofs.Changed.{called_nozzle}

@@ -1,7 +1,7 @@
 -- `insert` meets its contract: the sheet that it leaves, all rows of it written.
-use mathlib.Core.Path.{◌≡◌, refl, sym, ap, ◌∙◌}
+use mathlib.Core.Path.{◌≡◌, refl, sym, ◌∙◌}
 use native.Mathlib.Omega.{arith}
-use lib.ListN.{length, length-map}
+use lib.ListN.{length}
 use Rattle.sheet_data.specs.Layout.{most_parts}
 use Rattle.drag_sheet.specs.Calls.{insert, tries}
 use Rattle.drag_sheet.proofs.Answers.{Facts, call_facts, bounds, called_refused, called_whole}

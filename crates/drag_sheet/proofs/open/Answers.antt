@@ -1,5 +1,5 @@
 -- `open` meets its contract.
-use mathlib.Core.Path.{◌≡◌, refl, sym, ap, ◌∙◌}
+use mathlib.Core.Path.{sym, ◌∙◌}
 use native.Mathlib.Omega.{arith}
 use lib.ListN.{length}
 use Rattle.drag_sheet.proofs.Answers.{settings_facts, opened_refused, opened_whole}

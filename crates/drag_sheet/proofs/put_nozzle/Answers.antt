@@ -1,5 +1,5 @@
 -- `put_nozzle` meets its contract: the sheet with that nozzle diameter, its base and total rows written.
-use mathlib.Core.Path.{◌≡◌, ◌∙◌}
+use mathlib.Core.Path.{◌∙◌}
 use Rattle.drag_sheet.specs.Writing.{overwritten}
 use Rattle.drag_sheet.proofs.put_nozzle.Goals as goal
 

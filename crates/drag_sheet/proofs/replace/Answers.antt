@@ -1,7 +1,7 @@
 -- `replace` meets its contract: the sheet that it leaves, its changed rows written.
 use mathlib.Core.Path.{sym, ap, ◌∙◌}
 use native.Mathlib.Omega.{arith}
-use lib.ListN.{length, length-map}
+use lib.ListN.{length}
 use Rattle.sheet_data.specs.declared.Design.{Design}
 use Rattle.drag_sheet.specs.Calls.{replace}
 use Rattle.drag_sheet.proofs.Answers.{Facts, call_facts, bounds, called_refused}

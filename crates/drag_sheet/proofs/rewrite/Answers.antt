@@ -1,5 +1,5 @@
 -- `rewrite` meets its contract.
-use mathlib.Core.Path.{◌≡◌, refl, sym, ap, ◌∙◌}
+use mathlib.Core.Path.{◌∙◌}
 use Rattle.drag_sheet.proofs.rewrite.Goals as goal
 
 pub returns : goal.returns

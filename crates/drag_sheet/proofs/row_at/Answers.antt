@@ -1,6 +1,5 @@
 -- `row_at` meets its contract: the row of the part at the place, after the part before it.
 use mathlib.Core.Path.{refl}
-use lib.ListN.{length-map}
 use Rattle.drag_sheet.proofs.MadeRows.{row_made}
 use Rattle.std.proofs.Common.{rules}
 use Rattle.drag_sheet.proofs.row_at.Goals as goal

@@ -1,7 +1,7 @@
 -- `is_finite` meets its contract: of x - x by the cases of x. It is a NaN for a NaN and an infinity, and a finite x leaves the exact sum 0.
 use Prim.Native.Nat.{ℕ, ◌*◌, ◌<◌}
 use native.Mathlib.Nat.{le_refl, sub_self, mul-pos, zero-mul}
-use mathlib.Core.Path.{◌≡◌, refl, ap, ◌∙◌}
+use mathlib.Core.Path.{◌≡◌, refl, ap}
 use mathlib.Core.Bool.{Bool, true, false, not}
 use borrow.Author.Tests.{le-ltb}
 use lib.Dec.{lit<}

@@ -1,5 +1,4 @@
 -- `elementary::ln_sum` meets its contract.
-use mathlib.Core.Path.{refl}
 use lib.Ieee.{of_int, round, of_bits, div}
 use Rattle.elementary.specs.Steps.{ln_sum}
 use Rattle.elementary.proofs.ln_sum.Goals as goal

@@ -1,4 +1,3 @@
-use native.Mathlib.Omega.{arith}
 use Rattle.formula_vectors.proofs.replay_all.Given as goal
 
 abbrev pub invariant-loop-turns : goal.invariant-loop-turns

@@ -1,16 +1,7 @@
-use Prim.Native.Nat.{ℕ, suc, ◌+◌, ◌-◌, ◌*◌, ◌^◌, ◌≤◌, ◌<◌}
-use mathlib.Core.Path.{◌≡◌, refl}
-use native.Mathlib.Nat.{pow-le-pow_right, lt_of_lt_of_le}
-use native.Mathlib.Numerals.{add-one}
-use native.Mathlib.Omega.{arith}
-use borrow.Author.Tests.{le-leb, lt-leb}
-use lib.ListN.{length, drop, get_or}
-use lib.Seq.{drop-cons, drop-length}
-use lib.Dec.{leb}
-use mathlib.Core.Bool.{cond}
-use mathlib.Core.List.{List}
-use Rattle.replay.specs.declared.Field.TheVariants.{Unread}
-use Rattle.replay.specs.Words.{digit_of, digits_of}
+use Prim.Native.Nat.{◌-◌, ◌^◌, ◌≤◌, ◌<◌}
+use mathlib.Core.Path.{◌≡◌}
+use lib.ListN.{length, drop}
+use Rattle.replay.specs.Words.{digits_of}
 use Rattle.replay.proofs.digits.Given as goal
 
 abbrev pub invariant-loop-i : goal.invariant-loop-i

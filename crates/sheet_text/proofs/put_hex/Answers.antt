@@ -1,8 +1,8 @@
 -- `sheet_text::put_hex` meets its contract: with n digits still to put, the lowest first, the buffer comes to the same.
 use mathlib.Core.Path.{◌≡◌, refl, sym, ap, ◌∙◌}
-use Prim.Native.Nat.{ℕ, ◌+◌, ◌-◌, ◌≤◌, ◌/◌}
+use Prim.Native.Nat.{ℕ, ◌+◌, ◌-◌, ◌/◌}
 use native.Mathlib.Omega.{arith}
-use lib.ListN.{length, set, length-set}
+use lib.ListN.{set, length-set}
 use lib.Seq.{sets}
 use Rattle.sheet_text.specs.Bytes.{digits, hex_digits}
 use Rattle.sheet_text.proofs.Puts.{hex_long, hex_step}

@@ -1,10 +1,8 @@
-use mathlib.Core.Path.{◌≡◌, refl, sym, ap, ◌∙◌}
-use Prim.Native.Nat.{ℕ, ◌+◌, ◌-◌, ◌≤◌, ◌/◌}
-use native.Mathlib.Omega.{arith}
-use lib.ListN.{length, set, length-set}
+use mathlib.Core.Path.{◌≡◌}
+use Prim.Native.Nat.{◌≤◌}
+use lib.ListN.{length}
 use lib.Seq.{sets}
 use Rattle.sheet_text.specs.Bytes.{digits, hex_digits}
-use Rattle.sheet_text.proofs.Puts.{hex_long, hex_step}
 use Rattle.sheet_text.proofs.put_hex.Given as goal
 
 abbrev pub invariant-loop-n : goal.invariant-loop-n

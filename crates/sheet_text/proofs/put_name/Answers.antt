@@ -1,10 +1,10 @@
 -- `sheet_text::put_name` meets its contract.
-use lib.ListN.{get_or, length, drop, set, length-set, drop_of_length-le}
-use mathlib.Core.Path.{◌≡◌, refl}
+use lib.ListN.{get_or, drop, set, length-set, drop_of_length-le}
+use mathlib.Core.Path.{refl}
 use mathlib.Core.List.{[], ◌∷◌}
-use Prim.Native.Nat.{◌+◌, ◌-◌, ◌≤◌}
+use Prim.Native.Nat.{◌+◌}
 use native.Mathlib.Omega.{arith}
-use Rattle.sheet_text.proofs.Puts.{Putting, none_put, piece_put, all_put, first_byte}
+use Rattle.sheet_text.proofs.Puts.{none_put, piece_put, all_put, first_byte}
 use Rattle.sheet_text.proofs.put_name.Goals as goal
 
 pub loop-i-preserved : goal.loop-i-preserved

@@ -1,9 +1,7 @@
-use lib.ListN.{get_or, length, drop, set, length-set, drop_of_length-le}
-use mathlib.Core.Path.{◌≡◌, refl}
-use mathlib.Core.List.{[], ◌∷◌}
+use lib.ListN.{length, drop}
+use mathlib.Core.Path.{◌≡◌}
 use Prim.Native.Nat.{◌+◌, ◌-◌, ◌≤◌}
-use native.Mathlib.Omega.{arith}
-use Rattle.sheet_text.proofs.Puts.{Putting, none_put, piece_put, all_put, first_byte}
+use Rattle.sheet_text.proofs.Puts.{Putting}
 use Rattle.sheet_text.proofs.put_name.Given as goal
 
 abbrev pub invariant-loop-i : goal.invariant-loop-i

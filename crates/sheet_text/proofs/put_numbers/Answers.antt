@@ -1,11 +1,11 @@
 -- `sheet_text::put_numbers` meets its contract.
 use lib.Ieee.{nan}
-use lib.ListN.{get_or, length, drop, drop_of_length-le}
-use mathlib.Core.Path.{◌≡◌, ap}
-use Prim.Native.Nat.{◌+◌, ◌-◌, ◌*◌, ◌≤◌}
+use lib.ListN.{get_or, drop, drop_of_length-le}
+use mathlib.Core.Path.{ap}
+use Prim.Native.Nat.{◌+◌}
 use native.Mathlib.Omega.{arith}
-use Rattle.sheet_text.specs.Text.{number_text_size, numbers_text, number_text}
-use Rattle.sheet_text.proofs.Puts.{Putting, none_put, piece_put, all_put, first_number, number_long}
+use Rattle.sheet_text.specs.Text.{numbers_text, number_text}
+use Rattle.sheet_text.proofs.Puts.{none_put, piece_put, all_put, first_number, number_long}
 use Rattle.sheet_text.proofs.put_numbers.Goals as goal
 
 pub loop-i-preserved : goal.loop-i-preserved

@@ -1,10 +1,8 @@
-use lib.Ieee.{nan}
-use lib.ListN.{get_or, length, drop, drop_of_length-le}
-use mathlib.Core.Path.{◌≡◌, ap}
+use lib.ListN.{length, drop}
+use mathlib.Core.Path.{◌≡◌}
 use Prim.Native.Nat.{◌+◌, ◌-◌, ◌*◌, ◌≤◌}
-use native.Mathlib.Omega.{arith}
-use Rattle.sheet_text.specs.Text.{number_text_size, numbers_text, number_text}
-use Rattle.sheet_text.proofs.Puts.{Putting, none_put, piece_put, all_put, first_number, number_long}
+use Rattle.sheet_text.specs.Text.{number_text_size, numbers_text}
+use Rattle.sheet_text.proofs.Puts.{Putting}
 use Rattle.sheet_text.proofs.put_numbers.Given as goal
 
 abbrev pub invariant-loop-i : goal.invariant-loop-i

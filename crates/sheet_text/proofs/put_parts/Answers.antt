@@ -1,5 +1,5 @@
 -- `sheet_text::put_parts` meets its contract: what puts the lines from a place on after those before it puts them all.
-use mathlib.Core.Path.{◌≡◌, refl, sym, ap, ◌∙◌, subst}
+use mathlib.Core.Path.{◌≡◌, ap, ◌∙◌, subst}
 use mathlib.Core.List.{List, ◌++◌}
 use Prim.Native.Nat.{ℕ, ◌+◌, ◌-◌, ◌*◌, ◌≤◌, ◌<◌}
 use native.Mathlib.Omega.{arith}
@@ -8,10 +8,9 @@ use lib.Ieee.{Float}
 use Rattle.sheet_data.specs.Layout.{finishes, all_rows}
 use Rattle.sheet_data.specs.Rows.{row_at}
 use Rattle.sheet_text.specs.Bytes.{Put}
-use Rattle.sheet_text.specs.Text.{part_text, part_lines, line_text, part_name}
+use Rattle.sheet_text.specs.Text.{part_lines, line_text, part_name}
 use Rattle.sheet_text.proofs.Puts.{Putting, none_put, piece_put, all_put, row_within, row_cells, row_long, part_long, first_part}
 use Rattle.std.proofs.Common.{rules}
-use Rattle.sheet_text.proofs.put_parts.Invariants.{Left}
 use Rattle.sheet_text.proofs.put_parts.Goals as goal
 use Rattle.sheet_text.proofs.put_parts.Goals.{In-loop-place}
 

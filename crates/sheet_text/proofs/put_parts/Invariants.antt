@@ -1,14 +1,8 @@
-use mathlib.Core.Path.{◌≡◌, refl, sym, ap, ◌∙◌, subst}
-use mathlib.Core.List.{List, ◌++◌}
-use Prim.Native.Nat.{ℕ, ◌+◌, ◌-◌, ◌*◌, ◌≤◌, ◌<◌}
-use native.Mathlib.Omega.{arith}
-use lib.ListN.{length}
+use mathlib.Core.List.{List}
+use Prim.Native.Nat.{ℕ, ◌+◌, ◌-◌, ◌*◌, ◌≤◌}
 use lib.Ieee.{Float}
-use Rattle.sheet_data.specs.Layout.{finishes, all_rows}
-use Rattle.sheet_data.specs.Rows.{row_at}
-use Rattle.sheet_text.specs.Bytes.{Put}
-use Rattle.sheet_text.specs.Text.{part_text, part_lines, line_text, part_name}
-use Rattle.sheet_text.proofs.Puts.{Putting, none_put, piece_put, all_put, row_within, row_cells, row_long, part_long, first_part}
+use Rattle.sheet_text.specs.Text.{part_text, part_lines}
+use Rattle.sheet_text.proofs.Puts.{Putting}
 use Rattle.sheet_text.proofs.put_parts.Given as goal
 
 pub record Left (count columns : ℕ) (cells : List Float) (out₀ : List ℕ) (start : ℕ) (out : List ℕ) (at place : ℕ) : Type 0 where

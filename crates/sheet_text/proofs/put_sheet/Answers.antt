@@ -1,7 +1,7 @@
 -- `sheet_text::put_sheet` meets its contract.
 use mathlib.Core.Path.{◌≡◌, sym}
 use native.Mathlib.Omega.{arith}
-use lib.ListN.{length, length-map}
+use lib.ListN.{length}
 use lib.Seq.{length-take-le}
 use Rattle.sheet_data.specs.Layout.{most_columns}
 use Rattle.sheet_text.specs.Text.{machs_of, sheet_text, line_text, part_lines, body_text, mach_name}

@@ -1,5 +1,5 @@
 -- `sheet_vectors::fill` is safe and ends: the slice keeps its length, and the measure is what is left of it.
-use Rattle.std.proofs.Common.{◌≡◌, ◌-◌, ◌≤◌, length, refl, arith, length-set}
+use Rattle.std.proofs.Common.{refl, arith, length-set}
 use Rattle.sheet_vectors.proofs.fill.Goals as goal
 
 pub loop-i-init : goal.loop-i-init

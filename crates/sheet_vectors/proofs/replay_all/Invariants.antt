@@ -1,4 +1,4 @@
-use Rattle.std.proofs.Common.{◌≡◌, ◌+◌, length, refl, rules}
+use Rattle.std.proofs.Common.{◌≡◌, ◌+◌, length}
 use Rattle.sheet_data.specs.Layout.{most_columns, most_cells}
 use Rattle.sheet_vectors.proofs.replay_all.Given as goal
 

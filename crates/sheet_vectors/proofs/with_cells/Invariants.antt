@@ -1,4 +1,4 @@
-use Rattle.std.proofs.Common.{◌-◌, ◌≤◌, length, arith}
+use Rattle.std.proofs.Common.{◌-◌, ◌≤◌, length}
 use Rattle.sheet_vectors.proofs.with_cells.Given as goal
 
 abbrev pub invariant-loop-i : goal.invariant-loop-i

@@ -1,9 +1,8 @@
 -- `walk_points` meets its contract. The loop's invariant: the definition's walk goes on from the point (m0, c0) through the points from `place` on.
-use Prim.Native.Nat.{◌+◌, ◌-◌, ◌≤◌}
+use Prim.Native.Nat.{◌+◌, ◌-◌}
 use mathlib.Core.Path.{◌≡◌, sym, ◌∙◌}
 use native.Mathlib.Omega.{arith}
-use Rattle.stoney.specs.Lookup.{walk, lookup}
-use Rattle.stoney.specs.Stored.{stretch, before_first, from_first, before_next, from_next, past_last}
+use Rattle.stoney.specs.Stored.{before_first, from_first, before_next, from_next, past_last}
 use Rattle.stoney.proofs.walk_points.Goals as goal
 
 pub offset_bounds-machs-first : goal.offset_bounds-machs-first

@@ -1,8 +1,7 @@
 use Prim.Native.Nat.{◌+◌, ◌-◌, ◌≤◌}
-use mathlib.Core.Path.{◌≡◌, sym, ◌∙◌}
-use native.Mathlib.Omega.{arith}
+use mathlib.Core.Path.{◌≡◌}
 use Rattle.stoney.specs.Lookup.{walk, lookup}
-use Rattle.stoney.specs.Stored.{stretch, before_first, from_first, before_next, from_next, past_last}
+use Rattle.stoney.specs.Stored.{stretch}
 use Rattle.stoney.proofs.walk_points.Given as goal
 
 abbrev pub invariant-loop-place : goal.invariant-loop-place

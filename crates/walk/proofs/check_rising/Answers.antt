@@ -1,14 +1,7 @@
 -- `check_rising` meets its contract: of the Machs before i none is below its forerunner.
-use mathlib.Core.Path.{◌≡◌, sym}
-use Prim.Native.Nat.{suc, ◌-◌, ◌≤◌}
+use mathlib.Core.Path.{sym}
 use native.Mathlib.Numerals.{add-one}
 use native.Mathlib.Omega.{arith}
-use lib.ListN.{length, get_or}
-use lib.Ieee.{nan}
-use Rattle.elementary.specs.Arithmetic.{◌≺◌}
-use Rattle.aero_error.specs.declared.Check.TheVariants.{Passed}
-use Rattle.aero_error.specs.declared.Rule.TheVariants.{FallingMach}
-use Rattle.aero_error.specs.Checks.{unless, up_to}
 use Rattle.aero_error.specs.CheckLaws.{up_none, up_more, up_failed, up_end}
 use Rattle.walk.specs.Tests.{rising_test}
 use Rattle.walk.proofs.check_rising.Goals as goal

@@ -1,12 +1,7 @@
 -- `leg` meets its contract. The loop's invariant: the query as told is what it has met so far, and then the query from the points that are left.
-use mathlib.Core.Path.{◌≡◌, ◌∙◌}
-use mathlib.Core.List.{List}
-use Prim.Native.Nat.{◌-◌, ◌≤◌}
+use mathlib.Core.Path.{◌∙◌}
 use native.Mathlib.Omega.{arith}
-use lib.Ieee.{Float}
-use Rattle.walk.specs.Walk.{went}
-use Rattle.walk.specs.Places.{stand_at}
-use Rattle.walk.proofs.Turns.{after, after_none, moves, stops, ends_past}
+use Rattle.walk.proofs.Turns.{after_none, moves, stops, ends_past}
 use Rattle.walk.proofs.leg.Goals as goal
 
 pub loop-passed-init : goal.loop-passed-init

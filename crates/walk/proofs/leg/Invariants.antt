@@ -1,11 +1,10 @@
-use mathlib.Core.Path.{◌≡◌, ◌∙◌}
+use mathlib.Core.Path.{◌≡◌}
 use mathlib.Core.List.{List}
 use Prim.Native.Nat.{◌-◌, ◌≤◌}
-use native.Mathlib.Omega.{arith}
 use lib.Ieee.{Float}
 use Rattle.walk.specs.Walk.{went}
 use Rattle.walk.specs.Places.{stand_at}
-use Rattle.walk.proofs.Turns.{after, after_none, moves, stops, ends_past}
+use Rattle.walk.proofs.Turns.{after}
 use Rattle.walk.proofs.leg.Given as goal
 
 abbrev pub invariant-loop-passed : goal.invariant-loop-passed

@@ -1,11 +1,11 @@
 -- `walk_points` meets its contract. The loop's invariant: the whole walk is what was counted and written so far, and then the walk of the queries that are left
 -- from where the last one ended. The sum stays small since the whole count is at most queries plus points.
-use mathlib.Core.Path.{◌≡◌, refl, sym, ap, ◌∙◌}
-use Prim.Native.Nat.{ℕ, suc, ◌+◌, ◌-◌, ◌≤◌}
+use mathlib.Core.Path.{refl, sym, ap, ◌∙◌}
+use Prim.Native.Nat.{ℕ, suc, ◌+◌, ◌-◌}
 use native.Mathlib.Numerals.{add-one}
 use native.Mathlib.Nat.{zero-add, add-zero}
 use native.Mathlib.Omega.{arith}
-use lib.ListN.{length, set, drop, length-set, drop_of_length-le}
+use lib.ListN.{set, drop, length-set, drop_of_length-le}
 use lib.Seq.{sets}
 use lib.Ieee.{Float}
 use Rattle.walk.specs.Walk.{Walk, walk_from}

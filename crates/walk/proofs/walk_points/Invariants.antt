@@ -1,15 +1,9 @@
-use mathlib.Core.Path.{◌≡◌, refl, sym, ap, ◌∙◌}
-use Prim.Native.Nat.{ℕ, suc, ◌+◌, ◌-◌, ◌≤◌}
-use native.Mathlib.Numerals.{add-one}
-use native.Mathlib.Nat.{zero-add, add-zero}
-use native.Mathlib.Omega.{arith}
-use lib.ListN.{length, set, drop, length-set, drop_of_length-le}
+use mathlib.Core.Path.{◌≡◌}
+use Prim.Native.Nat.{◌+◌, ◌-◌, ◌≤◌}
+use lib.ListN.{length, drop}
 use lib.Seq.{sets}
-use lib.Ieee.{Float}
-use Rattle.walk.specs.Walk.{Walk, walk_from}
+use Rattle.walk.specs.Walk.{walk_from}
 use Rattle.walk.specs.Places.{stand_at}
-use Rattle.walk.proofs.Count.{walk_most}
-use Rattle.walk.proofs.Turns.{one_more, stretch_long}
 use Rattle.walk.proofs.walk_points.Given as goal
 
 abbrev pub invariant-loop-i : goal.invariant-loop-i

@@ -1,8 +1,6 @@
 -- `walk_vectors::put` is safe and ends: the measure is how many items are left of the nine.
-use mathlib.Core.Path.{◌≡◌, refl, ◌∙◌}
+use mathlib.Core.Path.{refl, ◌∙◌}
 use native.Mathlib.Omega.{arith}
-use Prim.Native.Nat.{◌-◌, ◌≤◌}
-use lib.ListN.{length}
 use Rattle.walk_vectors.proofs.put.Goals as goal
 
 pub loop-item-init : goal.loop-item-init

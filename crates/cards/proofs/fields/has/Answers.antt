@@ -1,5 +1,5 @@
 -- `cards::fields::has` meets its contract: the test `at + n ≤ length s`, made without a sum that could wrap.
-use Prim.Native.Nat.{◌+◌, ◌<◌, ◌≤◌}
+use Prim.Native.Nat.{◌+◌, ◌<◌}
 use lib.ListN.{length}
 use native.Mathlib.Omega.{arith}
 use mathlib.Core.Path.{sym}

@@ -1,12 +1,7 @@
-use mathlib.Core.Path.{◌≡◌, refl, ap, ◌∙◌}
-use mathlib.Core.List.{List}
-use Prim.Native.Nat.{ℕ, ◌-◌, ◌≤◌}
-use native.Mathlib.Omega.{arith}
-use lib.ListN.{set}
-use lib.Ieee.{Float}
+use mathlib.Core.Path.{◌≡◌}
+use Prim.Native.Nat.{◌-◌, ◌≤◌}
 use Rattle.cards.specs.Fields.{numbers_at}
 use Rattle.cards.specs.Cards.{slots}
-use Rattle.cards.proofs.Numbers.{slot_filled}
 use Rattle.cards.proofs.fields.read_numbers.Given as goal
 
 abbrev pub invariant-loop-i : goal.invariant-loop-i

@@ -1,9 +1,9 @@
 -- `cobalnis::noses::fill` meets its contract.
-use mathlib.Core.Path.{◌≡◌, refl, sym, ap, ◌∙◌}
+use mathlib.Core.Path.{refl, sym, ap, ◌∙◌}
 use mathlib.Core.List.{List}
-use Prim.Native.Nat.{ℕ, ◌+◌, ◌-◌, ◌≤◌}
+use Prim.Native.Nat.{ℕ, ◌+◌}
 use native.Mathlib.Omega.{arith}
-use lib.ListN.{length, set, drop, length-set, drop_of_length-le}
+use lib.ListN.{set, drop, length-set, drop_of_length-le}
 use lib.Seq.{sets}
 use lib.Ieee.{Float, nan}
 use Rattle.cobalnis.specs.Words.{spread}

@@ -1,13 +1,9 @@
-use mathlib.Core.Path.{◌≡◌, refl, sym, ap, ◌∙◌}
-use mathlib.Core.List.{List}
-use Prim.Native.Nat.{ℕ, ◌+◌, ◌-◌, ◌≤◌}
-use native.Mathlib.Omega.{arith}
-use lib.ListN.{length, set, drop, length-set, drop_of_length-le}
+use mathlib.Core.Path.{◌≡◌}
+use Prim.Native.Nat.{◌-◌, ◌≤◌}
+use lib.ListN.{length, drop}
 use lib.Seq.{sets}
-use lib.Ieee.{Float, nan}
 use Rattle.cobalnis.specs.Words.{spread}
 use Rattle.cobalnis.specs.Answers.{coefficient_word}
-use Rattle.cobalnis.proofs.Turns.{spread_step}
 use Rattle.cobalnis.proofs.noses.fill.Given as goal
 
 abbrev pub invariant-loop-i : goal.invariant-loop-i

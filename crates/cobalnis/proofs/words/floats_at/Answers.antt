@@ -1,12 +1,12 @@
 -- `words::floats_at` meets its contract: after i turns the first i slots hold their numbers.
-use mathlib.Core.Path.{◌≡◌, refl, sym, ap, ◌∙◌}
-use Prim.Native.Nat.{ℕ, ◌+◌, ◌-◌, ◌*◌, ◌≤◌}
+use mathlib.Core.Path.{◌≡◌, sym, ap, ◌∙◌}
+use Prim.Native.Nat.{ℕ, ◌+◌, ◌*◌}
 use native.Mathlib.Omega.{arith}
 use lib.ListN.{get_or, drop}
 use lib.Ieee.{nan}
 use Rattle.elementary.specs.Arithmetic.{bits}
 use Rattle.sheet_data.specs.Layout.{most_columns}
-use Rattle.sheet_data.specs.Tables.{Filling, fill_none, fill_more, fill_end}
+use Rattle.sheet_data.specs.Tables.{fill_none, fill_more, fill_end}
 use Rattle.cobalnis.specs.Words.{float}
 use Rattle.cobalnis.proofs.Turns.{every_tab, word_at}
 use Rattle.cobalnis.proofs.words.floats_at.Goals as goal

@@ -1,13 +1,8 @@
-use mathlib.Core.Path.{◌≡◌, refl, sym, ap, ◌∙◌}
-use Prim.Native.Nat.{ℕ, ◌+◌, ◌-◌, ◌*◌, ◌≤◌}
-use native.Mathlib.Omega.{arith}
-use lib.ListN.{get_or, drop}
-use lib.Ieee.{nan}
-use Rattle.elementary.specs.Arithmetic.{bits}
+use Prim.Native.Nat.{◌-◌, ◌*◌}
+use lib.ListN.{drop}
 use Rattle.sheet_data.specs.Layout.{most_columns}
-use Rattle.sheet_data.specs.Tables.{Filling, fill_none, fill_more, fill_end}
+use Rattle.sheet_data.specs.Tables.{Filling}
 use Rattle.cobalnis.specs.Words.{float}
-use Rattle.cobalnis.proofs.Turns.{every_tab, word_at}
 use Rattle.cobalnis.proofs.words.floats_at.Given as goal
 
 abbrev pub invariant-loop-i : goal.invariant-loop-i

@@ -1,12 +1,12 @@
 -- `words::parts_of` meets its contract: after i turns the first i slots hold their parts.
-use mathlib.Core.Path.{◌≡◌, refl, sym, ap, ◌∙◌}
-use Prim.Native.Nat.{ℕ, ◌+◌, ◌-◌, ◌*◌, ◌≤◌}
+use mathlib.Core.Path.{◌≡◌, sym, ◌∙◌}
+use Prim.Native.Nat.{◌+◌, ◌*◌}
 use native.Mathlib.Omega.{arith}
 use lib.ListN.{drop}
 use lib.Seq.{drop-drop}
 use Rattle.sheet_data.specs.Layout.{most_parts}
 use Rattle.sheet_data.specs.Contents.{no_part}
-use Rattle.sheet_data.specs.Tables.{Filling, fill_none, fill_more, fill_end}
+use Rattle.sheet_data.specs.Tables.{fill_none, fill_more, fill_end}
 use Rattle.cobalnis.specs.Words.{first_part, part_word_count, part_of}
 use Rattle.cobalnis.proofs.Turns.{every_tab}
 use Rattle.cobalnis.proofs.words.parts_of.Goals as goal

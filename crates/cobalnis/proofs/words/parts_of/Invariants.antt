@@ -1,13 +1,8 @@
-use mathlib.Core.Path.{◌≡◌, refl, sym, ap, ◌∙◌}
-use Prim.Native.Nat.{ℕ, ◌+◌, ◌-◌, ◌*◌, ◌≤◌}
-use native.Mathlib.Omega.{arith}
+use Prim.Native.Nat.{◌-◌, ◌*◌}
 use lib.ListN.{drop}
-use lib.Seq.{drop-drop}
 use Rattle.sheet_data.specs.Layout.{most_parts}
-use Rattle.sheet_data.specs.Contents.{no_part}
-use Rattle.sheet_data.specs.Tables.{Filling, fill_none, fill_more, fill_end}
+use Rattle.sheet_data.specs.Tables.{Filling}
 use Rattle.cobalnis.specs.Words.{first_part, part_word_count, part_of}
-use Rattle.cobalnis.proofs.Turns.{every_tab}
 use Rattle.cobalnis.proofs.words.parts_of.Given as goal
 
 abbrev pub invariant-loop-i : goal.invariant-loop-i

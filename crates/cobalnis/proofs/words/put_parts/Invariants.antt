@@ -1,14 +1,9 @@
-use mathlib.Core.Path.{◌≡◌, refl, sym, ap, ◌∙◌}
-use mathlib.Core.List.{List}
-use Prim.Native.Nat.{ℕ, ◌+◌, ◌-◌, ◌*◌, ◌≤◌}
-use native.Mathlib.Omega.{arith}
-use lib.ListN.{length, drop, get_or, drop_of_length-le}
+use mathlib.Core.Path.{◌≡◌}
+use Prim.Native.Nat.{◌+◌, ◌-◌, ◌*◌, ◌≤◌}
+use lib.ListN.{drop}
 use lib.Seq.{sets}
-use Rattle.sheet_data.specs.declared.Part.{Part}
-use Rattle.sheet_data.specs.Contents.{no_part}
 use Rattle.sheet_data.specs.Layout.{most_parts}
 use Rattle.cobalnis.specs.Words.{first_part, part_word_count, spread, part_words}
-use Rattle.cobalnis.proofs.Turns.{spread_step}
 use Rattle.cobalnis.proofs.words.put_parts.Given as goal
 
 abbrev pub invariant-loop-i : goal.invariant-loop-i

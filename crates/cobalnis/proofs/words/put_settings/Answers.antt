@@ -3,7 +3,7 @@ use mathlib.Core.List.{List}
 use mathlib.Core.Path.{◌≡◌, refl, sym, ap, ◌∙◌}
 use native.Mathlib.Omega.{arith}
 use Prim.Native.Nat.{ℕ, ◌+◌}
-use lib.ListN.{length, set, length-map}
+use lib.ListN.{length, set}
 use lib.Seq.{sets}
 use Rattle.sheet_data.specs.Layout.{most_columns}
 use Rattle.cobalnis.specs.Words.{machs_place, reynolds_place, spread, float_words}

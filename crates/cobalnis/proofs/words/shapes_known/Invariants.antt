@@ -1,11 +1,8 @@
-use mathlib.Core.Path.{◌≡◌, refl, sym, ap, ◌∙◌}
-use Prim.Native.Nat.{ℕ, ◌+◌, ◌-◌, ◌*◌, ◌≤◌}
-use native.Mathlib.Omega.{arith}
-use lib.ListN.{get_or, drop}
-use borrow.Author.Tests.{lt-ltb, le-ltb}
+use mathlib.Core.Path.{◌≡◌}
+use Prim.Native.Nat.{◌-◌, ◌*◌, ◌≤◌}
+use lib.ListN.{drop}
 use Rattle.sheet_data.specs.Layout.{most_parts}
 use Rattle.cobalnis.specs.Words.{first_part, part_word_count, shapes_known}
-use Rattle.cobalnis.proofs.Turns.{word_at, shapes_step, shapes_stop}
 use Rattle.cobalnis.proofs.words.shapes_known.Given as goal
 
 abbrev pub invariant-loop-i : goal.invariant-loop-i

@@ -3,7 +3,7 @@ use mathlib.Core.Path.{◌≡◌, refl, sym, ap, ◌∙◌}
 use native.Mathlib.Omega.{arith}
 use Prim.Native.Nat.{ℕ, ◌+◌}
 use mathlib.Core.List.{List, ◌∷◌, ◌++◌}
-use lib.ListN.{length, replicate, length-map, length-append}
+use lib.ListN.{length, replicate, length-append}
 use lib.Seq.{sets}
 use lib.Ieee.{to_bits, binary64}
 use Rattle.sheet_data.specs.Layout.{most_columns, most_parts}

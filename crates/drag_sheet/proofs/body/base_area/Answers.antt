@@ -1,6 +1,6 @@
 -- `base_area` meets its contract.
 use mathlib.Core.Path.{◌≡◌, ◌∙◌}
-use lib.ListN.{length, length-map}
+use lib.ListN.{length}
 use lib.Seq.{length-take-le}
 use native.Mathlib.Omega.{arith}
 use Rattle.sheet_data.specs.Contents.{parts_of}

@@ -1,10 +1,7 @@
 -- `fill_base` meets its contract: the cells before i are filled.
-use Prim.Native.Nat.{◌-◌}
 use native.Mathlib.Omega.{arith}
-use lib.ListN.{length, get_or}
 use lib.Ieee.{nan}
-use Rattle.sheet_data.specs.Tables.{Filling, fill_none, fill_more, fill_end}
-use Rattle.drag_sheet.specs.Body.{base_over}
+use Rattle.sheet_data.specs.Tables.{fill_none, fill_more, fill_end}
 use Rattle.drag_sheet.proofs.body.fill_base.Goals as goal
 
 pub loop-i-preserved : goal.loop-i-preserved

@@ -1,6 +1,6 @@
 -- `fore_diameter` meets its contract.
-use Prim.Native.Nat.{ℕ, suc, ◌-◌}
-use mathlib.Core.Path.{◌≡◌, sym, ap}
+use Prim.Native.Nat.{suc, ◌-◌}
+use mathlib.Core.Path.{◌≡◌, ap}
 use native.Mathlib.Omega.{arith}
 use Rattle.sheet_data.specs.Contents.{fore_at}
 use Rattle.drag_sheet.proofs.body.fore_diameter.Goals as goal

@@ -1,9 +1,8 @@
 -- `inserted` meets its contract: the slots up to i hold the new parts.
-use mathlib.Core.Path.{◌≡◌, refl, sym, ap, ◌∙◌}
-use mathlib.Core.List.{◌++◌}
-use Prim.Native.Nat.{◌+◌, ◌-◌, ◌≤◌}
+use mathlib.Core.Path.{◌≡◌, sym, ap, ◌∙◌}
+use Prim.Native.Nat.{◌+◌}
 use native.Mathlib.Omega.{arith}
-use lib.ListN.{length, take, drop, set}
+use lib.ListN.{length, take, set}
 use lib.Seq.{length-take-le, get_or-take, get_or-set_same, take_all}
 use Rattle.sheet_data.specs.Layout.{most_parts}
 use Rattle.sheet_data.specs.Contents.{part_at}

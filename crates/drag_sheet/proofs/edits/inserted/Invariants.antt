@@ -1,13 +1,9 @@
-use mathlib.Core.Path.{◌≡◌, refl, sym, ap, ◌∙◌}
+use mathlib.Core.Path.{◌≡◌}
 use mathlib.Core.List.{◌++◌}
 use Prim.Native.Nat.{◌+◌, ◌-◌, ◌≤◌}
-use native.Mathlib.Omega.{arith}
-use lib.ListN.{length, take, drop, set}
-use lib.Seq.{length-take-le, get_or-take, get_or-set_same, take_all}
-use Rattle.sheet_data.specs.Layout.{most_parts}
+use lib.ListN.{take, drop}
 use Rattle.sheet_data.specs.Contents.{part_at}
 use Rattle.drag_sheet.specs.Calls.{insert_at}
-use Rattle.drag_sheet.proofs.Slots.{filled_more, inserted_long, inserted_at, inserted_first}
 use Rattle.drag_sheet.proofs.edits.inserted.Given as goal
 
 abbrev pub invariant-loop-i : goal.invariant-loop-i

@@ -1,9 +1,8 @@
 -- `removed` meets its contract: the slots before i - 1 hold the new parts.
-use mathlib.Core.Path.{◌≡◌, refl, sym, ap, ◌∙◌}
-use mathlib.Core.List.{◌++◌}
-use Prim.Native.Nat.{◌+◌, ◌-◌, ◌≤◌}
+use mathlib.Core.Path.{◌≡◌, sym, ap, ◌∙◌}
+use Prim.Native.Nat.{◌+◌, ◌-◌}
 use native.Mathlib.Omega.{arith}
-use lib.ListN.{length, take, drop}
+use lib.ListN.{length, take}
 use lib.Seq.{length-take-le, take_all}
 use Rattle.sheet_data.specs.Layout.{most_parts}
 use Rattle.sheet_data.specs.Contents.{part_at, part_taken}

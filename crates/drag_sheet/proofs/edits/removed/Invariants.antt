@@ -1,13 +1,8 @@
-use mathlib.Core.Path.{◌≡◌, refl, sym, ap, ◌∙◌}
+use mathlib.Core.Path.{◌≡◌}
 use mathlib.Core.List.{◌++◌}
 use Prim.Native.Nat.{◌+◌, ◌-◌, ◌≤◌}
-use native.Mathlib.Omega.{arith}
-use lib.ListN.{length, take, drop}
-use lib.Seq.{length-take-le, take_all}
-use Rattle.sheet_data.specs.Layout.{most_parts}
-use Rattle.sheet_data.specs.Contents.{part_at, part_taken}
+use lib.ListN.{take, drop}
 use Rattle.drag_sheet.specs.Calls.{remove_at}
-use Rattle.drag_sheet.proofs.Slots.{filled_more, removed_long, removed_at, removed_first}
 use Rattle.drag_sheet.proofs.edits.removed.Given as goal
 
 abbrev pub invariant-loop-i : goal.invariant-loop-i

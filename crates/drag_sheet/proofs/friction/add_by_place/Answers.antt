@@ -1,7 +1,6 @@
 -- `add_by_place` meets its contract: the frictions of the parts before the place are added.
 use mathlib.Core.Path.{◌≡◌, sym, ap, ◌∙◌}
-use mathlib.Core.Logic.{⊎_elim}
-use Prim.Native.Nat.{ℕ, ◌-◌, ◌≤◌}
+use Prim.Native.Nat.{ℕ}
 use native.Mathlib.Omega.{arith}
 use lib.ListN.{length, get_or, length-replicate}
 use lib.Ieee.{Float, nan}
@@ -9,8 +8,7 @@ use Rattle.elementary.specs.Arithmetic.{◌⊗◌}
 use Rattle.elementary.specs.Constants.{0·0}
 use Rattle.drag.specs.Friction.{wall_of}
 use Rattle.sheet_data.specs.Contents.{part_at}
-use Rattle.sheet_data.specs.Tables.{tab, tab_long, tab_same, tab_constant}
-use Rattle.drag_sheet.specs.Formulas.{sum_to}
+use Rattle.sheet_data.specs.Tables.{tab_long, tab_same, tab_constant}
 use Rattle.drag_sheet.specs.Body.{flow_at, formed, formed_for}
 use Rattle.drag_sheet.proofs.Sums.{sum_none, terms_more}
 use Rattle.drag_sheet.proofs.friction.add_by_place.Goals as goal

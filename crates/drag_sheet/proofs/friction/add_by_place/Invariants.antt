@@ -1,17 +1,12 @@
-use mathlib.Core.Path.{◌≡◌, sym, ap, ◌∙◌}
-use mathlib.Core.Logic.{⊎_elim}
-use Prim.Native.Nat.{ℕ, ◌-◌, ◌≤◌}
-use native.Mathlib.Omega.{arith}
-use lib.ListN.{length, get_or, length-replicate}
-use lib.Ieee.{Float, nan}
+use mathlib.Core.Path.{◌≡◌}
+use Prim.Native.Nat.{◌-◌, ◌≤◌}
+use lib.ListN.{length, get_or}
+use lib.Ieee.{nan}
 use Rattle.elementary.specs.Arithmetic.{◌⊗◌}
-use Rattle.elementary.specs.Constants.{0·0}
-use Rattle.drag.specs.Friction.{wall_of}
 use Rattle.sheet_data.specs.Contents.{part_at}
-use Rattle.sheet_data.specs.Tables.{tab, tab_long, tab_same, tab_constant}
+use Rattle.sheet_data.specs.Tables.{tab}
 use Rattle.drag_sheet.specs.Formulas.{sum_to}
-use Rattle.drag_sheet.specs.Body.{flow_at, formed, formed_for}
-use Rattle.drag_sheet.proofs.Sums.{sum_none, terms_more}
+use Rattle.drag_sheet.specs.Body.{flow_at, formed_for}
 use Rattle.drag_sheet.proofs.friction.add_by_place.Given as goal
 
 abbrev pub invariant-loop-place : goal.invariant-loop-place

@@ -1,14 +1,13 @@
 -- `add_common` meets its contract: the frictions of the parts before the place are added, by four and then one by one.
 use mathlib.Core.Path.{◌≡◌, refl, sym, ap, ◌∙◌}
-use Prim.Native.Nat.{ℕ, ◌+◌, ◌-◌, ◌≤◌}
+use Prim.Native.Nat.{ℕ, ◌+◌}
 use native.Mathlib.Omega.{arith}
 use lib.ListN.{length, get_or, length-replicate}
 use lib.Ieee.{Float, nan}
 use Rattle.elementary.specs.Arithmetic.{◌⊗◌}
 use Rattle.elementary.specs.Constants.{0·0}
 use Rattle.sheet_data.specs.Contents.{part_at}
-use Rattle.sheet_data.specs.Tables.{tab, tab_long, tab_same, tab_constant}
-use Rattle.drag_sheet.specs.Formulas.{sum_to}
+use Rattle.sheet_data.specs.Tables.{tab_long, tab_same, tab_constant}
 use Rattle.drag_sheet.proofs.Sums.{sum_none, terms_more, four_terms_more}
 use Rattle.drag_sheet.proofs.friction.add_common.Goals as goal
 use Rattle.drag_sheet.proofs.friction.add_common.Goals.{At-loop-place, At-loop-place-2}

@@ -1,14 +1,11 @@
-use mathlib.Core.Path.{◌≡◌, refl, sym, ap, ◌∙◌}
-use Prim.Native.Nat.{ℕ, ◌+◌, ◌-◌, ◌≤◌}
-use native.Mathlib.Omega.{arith}
-use lib.ListN.{length, get_or, length-replicate}
-use lib.Ieee.{Float, nan}
+use mathlib.Core.Path.{◌≡◌}
+use Prim.Native.Nat.{◌-◌, ◌≤◌}
+use lib.ListN.{length, get_or}
+use lib.Ieee.{nan}
 use Rattle.elementary.specs.Arithmetic.{◌⊗◌}
-use Rattle.elementary.specs.Constants.{0·0}
 use Rattle.sheet_data.specs.Contents.{part_at}
-use Rattle.sheet_data.specs.Tables.{tab, tab_long, tab_same, tab_constant}
+use Rattle.sheet_data.specs.Tables.{tab}
 use Rattle.drag_sheet.specs.Formulas.{sum_to}
-use Rattle.drag_sheet.proofs.Sums.{sum_none, terms_more, four_terms_more}
 use Rattle.drag_sheet.proofs.friction.add_common.Given as goal
 
 abbrev pub invariant-loop-place : goal.invariant-loop-place

@@ -1,10 +1,7 @@
 -- `add_four` meets its contract: the cells before i are added, the others are as they were.
-use Prim.Native.Nat.{◌-◌}
 use native.Mathlib.Omega.{arith}
-use lib.ListN.{length, get_or}
 use lib.Ieee.{nan}
-use Rattle.sheet_data.specs.Tables.{Filling, fill_none, fill_more, fill_end}
-use Rattle.drag_sheet.specs.Body.{four_more}
+use Rattle.sheet_data.specs.Tables.{fill_none, fill_more, fill_end}
 use Rattle.drag_sheet.proofs.friction.add_four.Goals as goal
 
 pub loop-i-preserved : goal.loop-i-preserved

@@ -1,9 +1,8 @@
 use Prim.Native.Nat.{◌-◌}
-use native.Mathlib.Omega.{arith}
 use lib.ListN.{length, get_or}
 use lib.Ieee.{nan}
 use Rattle.elementary.specs.Arithmetic.{◌⊕◌, ◌⊗◌}
-use Rattle.sheet_data.specs.Tables.{Filling, fill_none, fill_more, fill_end}
+use Rattle.sheet_data.specs.Tables.{Filling}
 use Rattle.drag_sheet.specs.Body.{flow_at, formed}
 use Rattle.drag_sheet.proofs.friction.add_own.Given as goal
 

@@ -1,10 +1,7 @@
 -- `fill_on` meets its contract: the cells before i are filled.
-use Prim.Native.Nat.{◌-◌}
 use native.Mathlib.Omega.{arith}
-use lib.ListN.{length}
 use lib.Ieee.{nan}
-use Rattle.sheet_data.specs.Tables.{Filling, fill_none, fill_more, fill_end}
-use Rattle.drag_sheet.specs.Body.{flow_at, formed}
+use Rattle.sheet_data.specs.Tables.{fill_none, fill_more, fill_end}
 use Rattle.drag_sheet.proofs.friction.fill_on.Goals as goal
 
 pub loop-i-preserved : goal.loop-i-preserved

@@ -1,12 +1,7 @@
 -- `fill_once` meets its contract: the cells before i are filled.
-use Prim.Native.Nat.{◌-◌}
 use native.Mathlib.Omega.{arith}
-use lib.ListN.{length, get_or}
 use lib.Ieee.{nan}
-use Rattle.elementary.specs.Arithmetic.{◌⊗◌}
-use Rattle.drag.specs.Friction.{friction_on}
-use Rattle.sheet_data.specs.Tables.{Filling, fill_none, fill_more, fill_end}
-use Rattle.drag_sheet.specs.Formulas.{value_of}
+use Rattle.sheet_data.specs.Tables.{fill_none, fill_more, fill_end}
 use Rattle.drag_sheet.proofs.friction.fill_once.Goals as goal
 
 pub loop-i-preserved : goal.loop-i-preserved

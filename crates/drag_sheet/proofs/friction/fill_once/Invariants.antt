@@ -1,10 +1,9 @@
 use Prim.Native.Nat.{◌-◌}
-use native.Mathlib.Omega.{arith}
 use lib.ListN.{length, get_or}
 use lib.Ieee.{nan}
 use Rattle.elementary.specs.Arithmetic.{◌⊗◌}
 use Rattle.drag.specs.Friction.{friction_on}
-use Rattle.sheet_data.specs.Tables.{Filling, fill_none, fill_more, fill_end}
+use Rattle.sheet_data.specs.Tables.{Filling}
 use Rattle.drag_sheet.specs.Formulas.{value_of}
 use Rattle.drag_sheet.proofs.friction.fill_once.Given as goal
 

@@ -1,11 +1,6 @@
 -- `flows_of` meets its contract: the flows of the columns before i are there.
-use mathlib.Core.Bool.{true}
-use Prim.Native.Nat.{◌-◌, ◌≤◌}
 use native.Mathlib.Omega.{arith}
-use lib.ListN.{get_or}
-use lib.Ieee.{nan}
-use Rattle.drag.specs.Flows.{flow_of}
-use Rattle.sheet_data.specs.Tables.{Filling, fill_none, fill_more}
+use Rattle.sheet_data.specs.Tables.{fill_none, fill_more}
 use Rattle.drag_sheet.specs.Body.{no_flow}
 use Rattle.drag_sheet.proofs.friction.flows_of.Goals as goal
 

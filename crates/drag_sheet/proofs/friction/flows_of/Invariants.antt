@@ -1,11 +1,9 @@
 use mathlib.Core.Bool.{true}
 use Prim.Native.Nat.{◌-◌, ◌≤◌}
-use native.Mathlib.Omega.{arith}
 use lib.ListN.{get_or}
 use lib.Ieee.{nan}
 use Rattle.drag.specs.Flows.{flow_of}
-use Rattle.sheet_data.specs.Tables.{Filling, fill_none, fill_more}
-use Rattle.drag_sheet.specs.Body.{no_flow}
+use Rattle.sheet_data.specs.Tables.{Filling}
 use Rattle.drag_sheet.proofs.friction.flows_of.Given as goal
 
 abbrev pub invariant-loop-i : goal.invariant-loop-i

@@ -1,7 +1,7 @@
 -- `sum_common` meets its contract: the row at the settings' roughness, added for each part, is the row of the formula.
 use mathlib.Core.Path.{◌≡◌, sym, ap, ◌∙◌}
 use native.Mathlib.Omega.{arith}
-use lib.ListN.{length, replicate, length-map, length-append}
+use lib.ListN.{length, replicate, length-append}
 use lib.Seq.{take_at}
 use Rattle.elementary.specs.Constants.{0·0}
 use Rattle.sheet_data.specs.Layout.{most_columns, most_parts}

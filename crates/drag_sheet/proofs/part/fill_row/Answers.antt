@@ -1,14 +1,10 @@
 -- `fill_row` meets its contract: the cells before i are made.
-use mathlib.Core.Path.{◌≡◌, refl, sym, ap, ◌∙◌}
-use Prim.Native.Nat.{◌-◌}
+use mathlib.Core.Path.{refl, sym, ap, ◌∙◌}
 use native.Mathlib.Omega.{arith}
-use lib.ListN.{length, get_or}
 use lib.Ieee.{nan}
-use Rattle.aero_error.specs.declared.Check.TheVariants.{Passed}
-use Rattle.aero_error.specs.Checks.{up_to}
 use Rattle.aero_error.specs.CheckLaws.{up_none, up_more, up_failed, up_end}
-use Rattle.sheet_data.specs.Tables.{tab, Filling, fill_none, fill_more, fill_end}
-use Rattle.drag_sheet.specs.Formulas.{cell_of, value_of, made_test}
+use Rattle.sheet_data.specs.Tables.{fill_none, fill_more, fill_end}
+use Rattle.drag_sheet.specs.Formulas.{value_of, made_test}
 use Rattle.drag_sheet.proofs.Verdicts.{filled_refused, filled_passed}
 use Rattle.drag_sheet.proofs.part.fill_row.Goals as goal
 

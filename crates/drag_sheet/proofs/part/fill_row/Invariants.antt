@@ -1,14 +1,11 @@
-use mathlib.Core.Path.{◌≡◌, refl, sym, ap, ◌∙◌}
+use mathlib.Core.Path.{◌≡◌}
 use Prim.Native.Nat.{◌-◌}
-use native.Mathlib.Omega.{arith}
 use lib.ListN.{length, get_or}
 use lib.Ieee.{nan}
 use Rattle.aero_error.specs.declared.Check.TheVariants.{Passed}
 use Rattle.aero_error.specs.Checks.{up_to}
-use Rattle.aero_error.specs.CheckLaws.{up_none, up_more, up_failed, up_end}
-use Rattle.sheet_data.specs.Tables.{tab, Filling, fill_none, fill_more, fill_end}
+use Rattle.sheet_data.specs.Tables.{Filling}
 use Rattle.drag_sheet.specs.Formulas.{cell_of, value_of, made_test}
-use Rattle.drag_sheet.proofs.Verdicts.{filled_refused, filled_passed}
 use Rattle.drag_sheet.proofs.part.fill_row.Given as goal
 
 abbrev pub invariant-loop-i : goal.invariant-loop-i

@@ -1,8 +1,7 @@
 -- `part_row` meets its contract: the row of what was prepared, over the columns that count.
 use mathlib.Core.Path.{◌≡◌, refl, sym, ◌∙◌}
 use native.Mathlib.Omega.{arith}
-use lib.ListN.{length, length-map}
-use Rattle.aero_error.specs.declared.Check.TheVariants.{Failed}
+use lib.ListN.{length}
 use Rattle.sheet_data.specs.Layout.{most_columns}
 use Rattle.drag_sheet.proofs.Verdicts.{filled_refused}
 use Rattle.drag_sheet.proofs.Taken.{prefix_long, taken_row}

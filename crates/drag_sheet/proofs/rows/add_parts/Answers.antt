@@ -1,18 +1,14 @@
 -- `add_parts` meets its contract: the sum of the rows before this one.
-use mathlib.Core.Path.{◌≡◌, refl, sym, ap, ◌∙◌}
-use mathlib.Core.List.{List}
-use Prim.Native.Nat.{ℕ, ◌+◌, ◌-◌, ◌*◌, ◌≤◌}
+use mathlib.Core.Path.{◌≡◌, sym, ap, ◌∙◌}
+use Prim.Native.Nat.{◌+◌, ◌≤◌}
 use native.Mathlib.Omega.{arith}
 use lib.ListN.{length, length-replicate}
-use lib.Ieee.{Float}
 use Rattle.elementary.specs.Constants.{0·0}
 use Rattle.sheet_data.specs.Layout.{most_parts, finishes, all_rows}
 use Rattle.sheet_data.specs.RowLaws.{room, one_more, middle_long}
-use Rattle.sheet_data.specs.Tables.{tab, tab_long, tab_same, tab_constant}
-use Rattle.drag_sheet.specs.Formulas.{sum_to}
+use Rattle.sheet_data.specs.Tables.{tab_long, tab_same, tab_constant}
 use Rattle.drag_sheet.specs.Writing.{there}
 use Rattle.drag_sheet.proofs.Sums.{sum_none, sum_more, add_there}
-use Rattle.drag_sheet.proofs.rows.add_parts.Invariants.{Adding}
 use Rattle.drag_sheet.proofs.rows.add_parts.Goals as goal
 use Rattle.drag_sheet.proofs.rows.add_parts.Goals.{In-loop-row}
 

@@ -1,11 +1,7 @@
 -- `add_row` meets its contract: the cells before i are added, the others are as they were.
-use mathlib.Core.Path.{◌≡◌, refl, sym, ap, ◌∙◌}
-use Prim.Native.Nat.{◌-◌}
 use native.Mathlib.Omega.{arith}
-use lib.ListN.{length, get_or}
 use lib.Ieee.{nan}
-use Rattle.elementary.specs.Arithmetic.{◌⊕◌}
-use Rattle.sheet_data.specs.Tables.{Filling, fill_none, fill_more, fill_end}
+use Rattle.sheet_data.specs.Tables.{fill_none, fill_more, fill_end}
 use Rattle.drag_sheet.proofs.rows.add_row.Goals as goal
 
 pub loop-i-preserved : goal.loop-i-preserved

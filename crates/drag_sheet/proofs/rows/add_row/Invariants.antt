@@ -1,10 +1,8 @@
-use mathlib.Core.Path.{◌≡◌, refl, sym, ap, ◌∙◌}
 use Prim.Native.Nat.{◌-◌}
-use native.Mathlib.Omega.{arith}
 use lib.ListN.{length, get_or}
 use lib.Ieee.{nan}
 use Rattle.elementary.specs.Arithmetic.{◌⊕◌}
-use Rattle.sheet_data.specs.Tables.{Filling, fill_none, fill_more, fill_end}
+use Rattle.sheet_data.specs.Tables.{Filling}
 use Rattle.drag_sheet.proofs.rows.add_row.Given as goal
 
 abbrev pub invariant-loop-i : goal.invariant-loop-i

@@ -1,7 +1,7 @@
 -- `build_rows` meets its contract: the part rows, then the last rows, over cells of +0.
 use mathlib.Core.Path.{◌≡◌, sym, ◌∙◌}
 use native.Mathlib.Omega.{arith}
-use lib.ListN.{length, length-map}
+use lib.ListN.{length}
 use lib.Seq.{length-take-le}
 use Rattle.sheet_data.specs.Contents.{contents_of, parts_of}
 use Rattle.drag_sheet.proofs.Verdicts.{filled_refused, filled_passed}

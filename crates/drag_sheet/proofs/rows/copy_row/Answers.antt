@@ -1,10 +1,8 @@
 -- `copy_row` meets its contract: the cells before i are copied.
-use mathlib.Core.Path.{◌≡◌, refl, sym, ap, ◌∙◌}
-use Prim.Native.Nat.{◌-◌}
+use mathlib.Core.Path.{refl, sym, ◌∙◌}
 use native.Mathlib.Omega.{arith}
-use lib.ListN.{length, get_or}
 use lib.Ieee.{nan}
-use Rattle.sheet_data.specs.Tables.{Filling, fill_none, fill_more, fill_end, tab_of}
+use Rattle.sheet_data.specs.Tables.{fill_none, fill_more, fill_end, tab_of}
 use Rattle.drag_sheet.proofs.rows.copy_row.Goals as goal
 
 pub returns : goal.returns

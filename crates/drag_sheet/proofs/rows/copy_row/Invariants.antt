@@ -1,9 +1,7 @@
-use mathlib.Core.Path.{◌≡◌, refl, sym, ap, ◌∙◌}
 use Prim.Native.Nat.{◌-◌}
-use native.Mathlib.Omega.{arith}
 use lib.ListN.{length, get_or}
 use lib.Ieee.{nan}
-use Rattle.sheet_data.specs.Tables.{Filling, fill_none, fill_more, fill_end, tab_of}
+use Rattle.sheet_data.specs.Tables.{Filling}
 use Rattle.drag_sheet.proofs.rows.copy_row.Given as goal
 
 abbrev pub invariant-loop-i : goal.invariant-loop-i

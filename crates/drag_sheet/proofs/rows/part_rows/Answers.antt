@@ -1,24 +1,21 @@
 -- `part_rows` meets its contract: the rows of the places before this one are written, and each of them could be.
 use mathlib.Core.Path.{◌≡◌, sym, ap, ◌∙◌}
-use mathlib.Core.List.{List}
 use Prim.Native.Nat.{ℕ, ◌+◌, ◌-◌, ◌≤◌}
 use native.Mathlib.Omega.{arith}
-use lib.ListN.{length, take, length-map}
+use lib.ListN.{length, take}
 use lib.Seq.{length-take-le}
 use borrow.Rule.Slice.PartMut.{same_len_mid}
 use Rattle.elementary.specs.Constants.{0·0}
 use Rattle.aero_error.specs.CheckLaws.{up_failed, up_end}
-use Rattle.sheet_data.specs.declared.Part.{Part}
-use Rattle.sheet_data.specs.declared.Settings.{Settings}
 use Rattle.sheet_data.specs.Layout.{most_parts}
-use Rattle.sheet_data.specs.Contents.{Contents, contents_of, part_taken}
+use Rattle.sheet_data.specs.Contents.{contents_of, part_taken}
 use Rattle.sheet_data.specs.Rows.{from, rows_written}
 use Rattle.sheet_data.specs.RowLaws.{middle_long, from_below, rows_same}
 use Rattle.drag_sheet.specs.Build.{trial, row_of}
 use Rattle.drag_sheet.specs.Calls.{with_nozzle}
 use Rattle.drag_sheet.proofs.Verdicts.{filled_refused, filled_passed}
 use Rattle.drag_sheet.proofs.RowKinds.{same_trial, above_base}
-use Rattle.drag_sheet.proofs.Laying.{Laying, none_laid, prepared_next, laid_next}
+use Rattle.drag_sheet.proofs.Laying.{none_laid, prepared_next, laid_next}
 use Rattle.drag_sheet.proofs.rows.part_rows.Invariants.{contents}
 use Rattle.drag_sheet.proofs.rows.part_rows.Goals as goal
 use Rattle.drag_sheet.proofs.rows.part_rows.Goals.{After-offset-at, Start}

@@ -1,8 +1,7 @@
 -- `write_column` meets its contract: the cells of the rows before this one are put.
-use Prim.Native.Nat.{◌-◌}
 use native.Mathlib.Omega.{arith}
 use Rattle.sheet_data.specs.RowLaws.{rows_none, rows_end}
-use Rattle.drag_sheet.proofs.Laying.{Putting, put_next}
+use Rattle.drag_sheet.proofs.Laying.{put_next}
 use Rattle.drag_sheet.proofs.rows.write_column.Goals as goal
 
 pub loop-row-preserved : goal.loop-row-preserved

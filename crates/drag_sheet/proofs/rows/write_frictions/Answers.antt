@@ -1,11 +1,9 @@
 -- `write_frictions` meets its contract: the friction rows of the finishes before this one are written.
 use mathlib.Core.Path.{◌≡◌, ◌∙◌}
-use Prim.Native.Nat.{◌+◌, ◌-◌, ◌<◌}
+use Prim.Native.Nat.{◌+◌, ◌<◌}
 use native.Mathlib.Omega.{arith}
 use Rattle.sheet_data.specs.Layout.{finishes, friction_row}
-use Rattle.sheet_data.specs.Contents.{contents_of}
-use Rattle.sheet_data.specs.RowLaws.{RowsDone, rows_none, rows_next, rows_end}
-use Rattle.drag_sheet.specs.Build.{row_of}
+use Rattle.sheet_data.specs.RowLaws.{rows_none, rows_next, rows_end}
 use Rattle.drag_sheet.proofs.rows.write_frictions.Goals as goal
 
 pub write_friction-requires : goal.write_friction-requires

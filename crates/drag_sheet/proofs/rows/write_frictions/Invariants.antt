@@ -1,9 +1,7 @@
-use mathlib.Core.Path.{◌≡◌, ◌∙◌}
-use Prim.Native.Nat.{◌+◌, ◌-◌, ◌<◌}
-use native.Mathlib.Omega.{arith}
+use Prim.Native.Nat.{◌-◌}
 use Rattle.sheet_data.specs.Layout.{finishes, friction_row}
 use Rattle.sheet_data.specs.Contents.{contents_of}
-use Rattle.sheet_data.specs.RowLaws.{RowsDone, rows_none, rows_next, rows_end}
+use Rattle.sheet_data.specs.RowLaws.{RowsDone}
 use Rattle.drag_sheet.specs.Build.{row_of}
 use Rattle.drag_sheet.proofs.rows.write_frictions.Given as goal
 

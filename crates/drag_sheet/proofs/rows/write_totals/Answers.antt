@@ -1,10 +1,8 @@
 -- `write_totals` meets its contract: the totals of the finishes before this one are written.
-use Prim.Native.Nat.{◌-◌}
 use native.Mathlib.Omega.{arith}
-use Rattle.sheet_data.specs.Layout.{finishes}
 use Rattle.sheet_data.specs.RowLaws.{rows_none, rows_end}
 use Rattle.drag_sheet.specs.Writing.{totalled}
-use Rattle.drag_sheet.proofs.MadeRows.{TotalsDone, total_next}
+use Rattle.drag_sheet.proofs.MadeRows.{total_next}
 use Rattle.drag_sheet.proofs.rows.write_totals.Goals as goal
 
 pub write_total-requires : goal.write_total-requires

@@ -1,9 +1,5 @@
 use Prim.Native.Nat.{◌-◌}
-use native.Mathlib.Omega.{arith}
-use Rattle.sheet_data.specs.Layout.{finishes}
-use Rattle.sheet_data.specs.RowLaws.{rows_none, rows_end}
-use Rattle.drag_sheet.specs.Writing.{totalled}
-use Rattle.drag_sheet.proofs.MadeRows.{TotalsDone, total_next}
+use Rattle.drag_sheet.proofs.MadeRows.{TotalsDone}
 use Rattle.drag_sheet.proofs.rows.write_totals.Given as goal
 
 abbrev pub invariant-loop-finish : goal.invariant-loop-finish

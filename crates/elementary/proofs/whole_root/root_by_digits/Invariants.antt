@@ -1,11 +1,6 @@
-use mathlib.Core.Path.{◌≡◌, refl, sym, ap, ◌∙◌, subst}
-use mathlib.Core.Logic.{⊎_elim}
-use Prim.Native.Nat.{ℕ, suc, ◌+◌, ◌-◌, ◌*◌, ◌/◌, ◌%◌, ◌^◌, ◌≤◌, ◌<◌}
-use native.Mathlib.Nat.{lt_of_lt_of_le, pow-suc, mul_assoc}
-use lib.Pow.{pow_mono}
-use native.Mathlib.Omega.{arith}
-use native.Mathlib.Numerals.{add-one}
-use Rattle.elementary.proofs.Root.{Rooted, at_start, next_even, next_odd, nearest_up, nearest_down}
+use mathlib.Core.Path.{◌≡◌}
+use Prim.Native.Nat.{ℕ, ◌+◌, ◌-◌, ◌*◌, ◌^◌, ◌≤◌, ◌<◌}
+use Rattle.elementary.proofs.Root.{Rooted}
 use Rattle.elementary.proofs.whole_root.root_by_digits.Given as goal
 
 pub record Read (w rest root left digit : ℕ) : Type 0 where

@@ -1,7 +1,6 @@
 -- The cycle of curve, reference and method meets its contracts. Each member's measure is the depth, which falls by one at every call; what each requires is
 -- as much depth as its own value asks for, so that the calls it makes have enough. A cone reference asks a cone's curve, whose method asks nobody.
-use Rattle.std.proofs.Common.{◌≤◌, ◌≡◌, ◌∙◌, arith}
-use Rattle.std.specs.Float.{Float}
+use Rattle.std.proofs.Common.{◌≤◌, ◌∙◌, arith}
 use Rattle.elementary.specs.Constants.{1·0}
 use Rattle.nose_drag.specs.Below.{rest_with, fit_with, fitted}
 use Rattle.nose_drag.specs.Curves.{from_transonic}

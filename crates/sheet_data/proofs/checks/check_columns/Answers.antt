@@ -1,13 +1,7 @@
 -- `check_columns` meets its contract: the columns before i have passed.
-use mathlib.Core.Path.{◌≡◌, sym, ◌∙◌}
-use Prim.Native.Nat.{◌-◌, ◌≤◌}
+use mathlib.Core.Path.{sym, ◌∙◌}
 use native.Mathlib.Omega.{arith}
-use lib.ListN.{get_or}
-use lib.Ieee.{nan}
-use Rattle.aero_error.specs.declared.Check.TheVariants.{Passed}
-use Rattle.aero_error.specs.Checks.{up_to}
 use Rattle.aero_error.specs.CheckLaws.{up_none, up_more, up_failed, up_end}
-use Rattle.drag.specs.Friction.{flow_checked}
 use Rattle.sheet_data.specs.Tests.{columns_test}
 use Rattle.sheet_data.proofs.checks.check_columns.Goals as goal
 

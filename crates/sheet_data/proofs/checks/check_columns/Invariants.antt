@@ -1,13 +1,10 @@
-use mathlib.Core.Path.{◌≡◌, sym, ◌∙◌}
+use mathlib.Core.Path.{◌≡◌}
 use Prim.Native.Nat.{◌-◌, ◌≤◌}
-use native.Mathlib.Omega.{arith}
 use lib.ListN.{get_or}
 use lib.Ieee.{nan}
 use Rattle.aero_error.specs.declared.Check.TheVariants.{Passed}
 use Rattle.aero_error.specs.Checks.{up_to}
-use Rattle.aero_error.specs.CheckLaws.{up_none, up_more, up_failed, up_end}
 use Rattle.drag.specs.Friction.{flow_checked}
-use Rattle.sheet_data.specs.Tests.{columns_test}
 use Rattle.sheet_data.proofs.checks.check_columns.Given as goal
 
 abbrev pub invariant-loop-i : goal.invariant-loop-i

@@ -1,14 +1,11 @@
 -- `check_parts` meets its contract: the parts before the place have passed.
 use mathlib.Core.Path.{◌≡◌, sym, ap, ◌∙◌}
-use Prim.Native.Nat.{◌-◌, ◌≤◌}
 use native.Mathlib.Omega.{arith}
-use lib.ListN.{length, take, length-map}
+use lib.ListN.{length, take}
 use lib.Seq.{length-take-le}
-use Rattle.aero_error.specs.declared.Check.TheVariants.{Passed}
-use Rattle.aero_error.specs.Checks.{up_to}
 use Rattle.aero_error.specs.CheckLaws.{up_none, up_more, up_failed, up_end}
 use Rattle.sheet_data.specs.Tests.{part_test, parts_test}
-use Rattle.sheet_data.specs.Contents.{part_at, part_taken}
+use Rattle.sheet_data.specs.Contents.{part_taken}
 use Rattle.sheet_data.proofs.checks.check_parts.Goals as goal
 use Rattle.sheet_data.proofs.checks.check_parts.Goals.{Start}
 

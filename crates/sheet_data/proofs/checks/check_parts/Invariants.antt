@@ -1,13 +1,10 @@
-use mathlib.Core.Path.{◌≡◌, sym, ap, ◌∙◌}
+use mathlib.Core.Path.{◌≡◌}
 use Prim.Native.Nat.{◌-◌, ◌≤◌}
-use native.Mathlib.Omega.{arith}
-use lib.ListN.{length, take, length-map}
-use lib.Seq.{length-take-le}
+use lib.ListN.{take}
 use Rattle.aero_error.specs.declared.Check.TheVariants.{Passed}
 use Rattle.aero_error.specs.Checks.{up_to}
-use Rattle.aero_error.specs.CheckLaws.{up_none, up_more, up_failed, up_end}
-use Rattle.sheet_data.specs.Tests.{part_test, parts_test}
-use Rattle.sheet_data.specs.Contents.{part_at, part_taken}
+use Rattle.sheet_data.specs.Tests.{part_test}
+use Rattle.sheet_data.specs.Contents.{part_at}
 use Rattle.sheet_data.proofs.checks.check_parts.Given as goal
 
 abbrev pub invariant-loop-place : goal.invariant-loop-place

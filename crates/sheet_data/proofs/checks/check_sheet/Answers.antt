@@ -1,5 +1,5 @@
 -- `check_sheet` meets its contract: each return is where the tests before it passed.
-use mathlib.Core.Path.{◌≡◌, sym, ◌∙◌}
+use mathlib.Core.Path.{◌≡◌}
 use borrow.Author.Tests.{lt-ltb, le-ltb}
 use lib.Dec.{ltb}
 use Rattle.aero_error.specs.declared.Rule.TheVariants.{DesignFull}

@@ -4,7 +4,7 @@ use native.Mathlib.Nat.{add-zero}
 use lib.Ieee.{Float}
 use Rattle.stoney.specs.declared.StoneyNose.{StoneyNose}
 use Rattle.stoney.specs.declared.StoneyNose.TheVariants.{PowerQuarter, PowerHalf, PowerThreeQuarters, ParabolaHalf, ParabolaThreeQuarters, Parabola, Ellipsoid, LvHaack, VonKarman}
-use Rattle.stoney.specs.Points.{Point, points, mach_at, range_of, range_within, at_place, first_mach}
+use Rattle.stoney.specs.Points.{Point, mach_at, range_of, range_within, at_place, first_mach}
 use Rattle.stoney.proofs.StoneyNose.first_mach.Goals as goal
 
 own : (self nose : StoneyNose) (r : Float) → self ≡ nose → r ≡ mach_at (range_of nose).first → r ≡ first_mach self

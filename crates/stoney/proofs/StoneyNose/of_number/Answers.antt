@@ -5,7 +5,6 @@ use Prim.Native.Nat.{ℕ, zero, suc, ◌+◌, ◌-◌, ◌≤◌}
 use native.Mathlib.Omega.{arith}
 use lib.ListN.{get_or}
 use lib.Seq.{get_or-drop}
-use Rattle.elementary.proofs.Cases.{above}
 use Rattle.stoney.specs.declared.StoneyNose.TheVariants.{VonKarman}
 use Rattle.stoney.specs.Tables.{noses, nose_at}
 use Rattle.stoney.proofs.StoneyNose.of_number.Goals as goal
