@@ -1,5 +1,5 @@
--- Where the tests of a sheet pass, the formulas of friction, base and boattail give a number: an accepted sheet leaves them nothing to refuse.
-use Rattle.std.specs.Prelude.{◌≡◌, refl, Bool, true, false, cond, ◌&&◌, ◌||◌, ℕ, ◌*◌, T, eqb, pos, Float}
+-- Where the tests of a sheet pass, the formulas of friction (proofs/Answered.antt), base and boattail give a number: an accepted sheet leaves them nothing to refuse.
+use Rattle.std.specs.Prelude.{◌≡◌, refl, Bool, true, false, ◌&&◌, ◌||◌, ℕ, ◌*◌, T, eqb, pos, Float}
 use Rattle.std.proofs.Common.{sym, ap, subst, eqb→eq}
 use Rattle.std.specs.Bool.{beq}
 use Rattle.std.proofs.lemmas.Bool.{false≢true}
@@ -11,14 +11,14 @@ use Rattle.elementary.specs.Arithmetic.{◌⊕◌, ◌⊖◌, ◌⊗◌, ◌⊘�
 use Rattle.elementary.specs.Steps.{POW}
 use Rattle.elementary.specs.Tests.{between}
 use Rattle.elementary.specs.Constants.{0·0, 0·5, 1·0}
-use Rattle.aero_error.specs.declared.Quantity.TheVariants.{Mach, Roughness, BodyFineness}
+use Rattle.aero_error.specs.declared.Quantity.TheVariants.{Mach, BodyFineness}
 use Rattle.aero_error.specs.declared.Check.{Check}
 use Rattle.aero_error.specs.declared.Check.TheVariants.{Passed}
 use Rattle.aero_error.specs.declared.Coefficient.TheVariants.{Value}
 use Rattle.aero_error.specs.Checks.{required, dimension, ◌and_then◌}
 use Rattle.aero_error.specs.CheckLaws.{required_passed}
 use Rattle.drag.specs.Constants.{51·0, 1·039, low_reynolds}
-use Rattle.drag.specs.Friction.{mach_checked, flow_checked, critical_reynolds, limited_friction, compressible, friction_on, skin_friction_coefficient, body_friction_form_factor}
+use Rattle.drag.specs.Friction.{mach_checked, body_friction_form_factor}
 use Rattle.drag.specs.Pressure.{base_drag, base_drag_coefficient, boattail_share, boattail_factor}
 
 -- ---- from 0 to a bound
@@ -65,7 +65,7 @@ pub in_interval_lem : (x high : Float) → finite high ≡ true → between 0·0
 unfolding dimension between le
 in_interval_lem x high f h = rw (bounded x high f h) (either (0·0 ≺ x) (0·0 ≈ x) (x ≈ 0·0) (zero_back x) (both (0·0 ≼ x) (x ≼ high) h).0)
 
-one_finite : finite 1·0 ≡ true
+pub one_finite : finite 1·0 ≡ true
 unfolding of_bits
 one_finite = refl
 
@@ -86,22 +86,6 @@ mach_passed M h =
 -- the roughness limits the friction from Reynolds 10000 and from the critical number on
 abbrev pub limits : Float → Float → Bool
 limits k R = low_reynolds ≼ R && 51·0 ⊗ POW k (neg 1·039) ≼ R
-
--- "roughness in [0, 1]": each has its critical number
-pub critical_answered : (k : Float) → between 0·0 k 1·0 ≡ true → critical_reynolds k ≡ Value (51·0 ⊗ POW k (neg 1·039))
-unfolding critical_reynolds
-critical_answered k h = ap (λ (ok : Bool). required ok Roughness k and_then Value (51·0 ⊗ POW k (neg 1·039))) (in_interval_lem k 1·0 one_finite h)
-
--- and its friction at any flow that passed
-pub friction_answered : (R k M : Float) → flow_checked M R ≡ Passed → between 0·0 k 1·0 ≡ true
-    → skin_friction_coefficient R k M ≡ Value (compressible (limits k R) (limited_friction k) R M)
-unfolding skin_friction_coefficient friction_on
-friction_answered R k M flow rough = rw (flow, critical_answered k rough) (by (low_reynolds ≼ R))
-  where
-    by : (asked : Bool) → cond asked (Value (compressible (51·0 ⊗ POW k (neg 1·039) ≼ R) (limited_friction k) R M)) (Value (compressible false (limited_friction k) R M))
-        ≡ Value (compressible (asked && 51·0 ⊗ POW k (neg 1·039) ≼ R) (limited_friction k) R M)
-    by true = refl
-    by false = refl
 
 pub form_answered : (B : Float) → dimension B false ≡ true → body_friction_form_factor B ≡ Value (1·0 ⊕ 0·5 ⊘ B)
 unfolding body_friction_form_factor

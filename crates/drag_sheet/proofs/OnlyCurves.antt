@@ -22,7 +22,8 @@ use Rattle.aero_error.specs.Checks.{dimension, unless, up_to}
 use Rattle.aero_error.specs.CheckLaws.{both_passed, required_passed, up_each, up_all, up_same}
 use Rattle.drag.specs.Friction.{mach_checked, flow_checked, limited_friction, compressible, skin_friction_coefficient, body_friction_form_factor}
 use Rattle.drag.specs.Pressure.{base_drag, base_drag_coefficient}
-use Rattle.drag.specs.Answered.{limits, friction_answered, form_answered, base_answered, boattail_answered}
+use Rattle.drag.specs.Answered.{limits, form_answered, base_answered, boattail_answered}
+use Rattle.drag.proofs.Answered.{friction_answered}
 use Rattle.nose_drag.specs.declared.curve.PressureDragCurve.{PressureDragCurve}
 use Rattle.nose_drag.specs.declared.builder.Curve.{Curve}
 use Rattle.nose_drag.specs.declared.builder.Curve.TheVariants.{Built, Refused as NotBuilt}

@@ -1,10 +1,9 @@
 -- With which weight the upper of two references counts. At the start of a gap it is 0, so that the lower one counts alone (proofs/Measured.antt), and at the end of a
 -- series 1; there lo + 1 × (hi - lo) is rounded twice and may differ from hi in its last bits. In between it is (k - low)/(high - low). A weight by half the gap between
--- 0.5 and 0.75 would give the upper nose the weight 1 midway there. `not_half_gap` names that weight and excludes it.
-use Rattle.std.specs.Prelude.{◌≡◌, refl, true, false, [], ◌∷◌, map, Float}
-use Rattle.std.proofs.Common.{sym, ap, ◌∙◌, true≢false}
+-- 0.5 and 0.75 would give the upper nose the weight 1 midway there. `not_half_gap` (proofs/Weights.antt) excludes that weight, `half_gap`.
+use Rattle.std.specs.Prelude.{◌≡◌, refl, [], ◌∷◌, map, Float}
 use Rattle.std.specs.Float.Ieee.{of_bits, round, sum, neg, add, sub, mul, div, lt}
-use Rattle.elementary.specs.Arithmetic.{◌⊖◌, ◌⊗◌, ◌⊘◌, ◌≺◌, bits}
+use Rattle.elementary.specs.Arithmetic.{◌⊖◌, ◌⊗◌, ◌⊘◌, bits}
 use Rattle.elementary.specs.Constants.{2·0, 0·0, 0·5, 1·0}
 use Rattle.drag.specs.Constants.{0·25, 1·5, 3·0}
 use Rattle.stoney.specs.declared.StoneyNose.TheVariants.{PowerQuarter, PowerHalf, PowerThreeQuarters, ParabolaHalf, ParabolaThreeQuarters, Parabola}
@@ -66,24 +65,3 @@ half_gap k = (k ⊖ 0·5) ⊘ ((0·75 ⊖ 0·5) ⊘ 2·0)
 -- 5/8, midway between 1/2 and 3/4
 abbrev pub 0·625 : Float
 0·625 = bits 0x3fe4000000000000
-
--- midway the weight is one half; by half the gap it would be 1
-half_at_5/8 :
-    (weight_of (power_bracket 0·625) 0·625 ≡ 0·5) × (weight_of (parabolic_bracket 0·625) 0·625 ≡ 0·5) × (half_gap 0·625 ≡ 1·0)
-unfolding power_bracket parabolic_bracket weight_of of_bits round sub add sum neg mul div lt
-half_at_5/8 = (refl, refl, refl)
-
-half_is_less : (0·5 ≺ 1·0) ≡ true
-unfolding of_bits lt
-half_is_less = refl
-
-one_is_not : (1·0 ≺ 1·0) ≡ false
-unfolding of_bits lt
-one_is_not = refl
-
-half_not_one : 0·5 ≡ 1·0 → ⊥
-half_not_one e = true≢false (sym half_is_less ∙ ap (λ (x : Float). x ≺ 1·0) e ∙ one_is_not)
-
-pub not_half_gap :
-    ((weight_of (power_bracket 0·625) 0·625 ≡ half_gap 0·625) → ⊥) × ((weight_of (parabolic_bracket 0·625) 0·625 ≡ half_gap 0·625) → ⊥)
-not_half_gap = ((λ e. half_not_one (sym half_at_5/8.0 ∙ e ∙ half_at_5/8.2)), λ e. half_not_one (sym half_at_5/8.1 ∙ e ∙ half_at_5/8.2))

@@ -23,7 +23,7 @@ use Rattle.stoney.specs.declared.ValueAndSlope.{ValueAndSlope}
 use Rattle.stoney.specs.Tables.{noses}
 use Rattle.stoney.specs.Points.{Point, points, every, holds_at}
 use Rattle.stoney.specs.Lookup.{line, is_short_of, walk, value_and_slope}
-use Rattle.stoney.specs.Segments.{below_limit}
+use Rattle.stoney.proofs.Segments.{below_limit}
 use Rattle.stoney.specs.BrokenLine.{start, corners}
 use Rattle.stoney.proofs.Corners.{from_start, by_corners}
 

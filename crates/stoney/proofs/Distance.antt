@@ -27,7 +27,7 @@ use Rattle.stoney.specs.declared.StoneyNose.TheVariants.{VonKarman}
 use Rattle.stoney.specs.Tables.{noses}
 use Rattle.stoney.specs.Points.{Point, points, no_point, every, holds_at}
 use Rattle.stoney.specs.Lookup.{line, before, walk, lookup, value_and_slope}
-use Rattle.stoney.specs.Segments.{below_limit}
+use Rattle.stoney.proofs.Segments.{below_limit}
 use Rattle.stoney.specs.BrokenLine.{across, height, start, corners, level, onwards, through, broken_line}
 use Rattle.stoney.specs.Distance.{bound, HowFar}
 use Rattle.stoney.proofs.Segment.{fair_segment, on_line}

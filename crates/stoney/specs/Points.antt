@@ -1,9 +1,9 @@
 -- The points that the program stores: each number of a table is the binary64 number nearest its decimal, and the nine tables stand one after the other.
--- `part_of_all` shows that each nose's range picks that nose's table, and `all_rise`, `rises_at` that Mach strictly rises within each.
+-- `part_of_all` shows that each nose's range picks that nose's table; that Mach strictly rises within each is `all_rise` (proofs/Rises.antt) and `rises_at`.
 use Rattle.std.specs.Prelude.{◌≡◌, refl, Bool, true, false, ◌&&◌, List, [], ◌∷◌, ◌++◌, map, ℕ, zero, suc, ◌+◌, ◌≤◌, ◌<◌, T, eqb, length, get_or, take, drop, Float}
 use Rattle.std.proofs.Common.{le_of_suc-le-suc, not-suc-le-zero, lit<, lit≤, get_or-take, get_or-drop}
 use Rattle.std.specs.Float.{binary64}
-use Rattle.std.specs.Float.Ieee.{round, lt}
+use Rattle.std.specs.Float.Ieee.{round}
 use Rattle.std.specs.Float.Ieee.Fits.{and_l, and_r}
 use Rattle.std.specs.Float.Ieee.Positive.{positive}
 use Rattle.elementary.specs.Arithmetic.{◌≺◌, bits}
@@ -97,7 +97,7 @@ first_mach nose = (get_or (points nose) 0 no_point).mach
 abbrev pub from_1·2 : StoneyNose → Bool
 from_1·2 nose = eqb (get_or (tabled nose) 0 (0, 0)).0 1200
 
--- ---- "within each nose Mach strictly rises": one computed test over all nine tables, and one law that carries it to each entry
+-- ---- "within each nose Mach strictly rises": one test over all nine tables, computed in proofs/Rises.antt, and one law that carries it to each entry
 
 -- every Mach is a positive number and below the next one
 abbrev pub rises : List Point → Bool
@@ -129,13 +129,6 @@ module _ (test : StoneyNose → Bool) where
   holds_at t Ellipsoid = first_holds _ (drop 7 noses) (rest_holds 6 noses t)
   holds_at t LvHaack = first_holds _ (drop 8 noses) (rest_holds 7 noses t)
   holds_at t VonKarman = first_holds _ (drop 9 noses) (rest_holds 8 noses t)
-
-pub all_rise : T (every (λ nose. rises (points nose)) noses)
-unfolding points round lt
-all_rise = tt
-
-pub nose_rises : (nose : StoneyNose) → T (rises (points nose))
-nose_rises nose = holds_at (λ nose. rises (points nose)) all_rise nose
 
 pub tail_rises : (p q : Point) (rest : List Point) → T (rises (p ∷ q ∷ rest)) → T (rises (q ∷ rest))
 tail_rises p q rest t = and_r (p.mach ≺ q.mach) (rises (q ∷ rest)) (and_r (positive p.mach) (p.mach ≺ q.mach && rises (q ∷ rest)) t)

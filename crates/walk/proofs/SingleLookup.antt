@@ -22,7 +22,8 @@ use Rattle.aero_error.specs.declared.Rule.TheVariants.{FallingMach}
 use Rattle.drag.specs.Friction.{mach_checked, machs_test}
 use Rattle.drag.specs.Answered.{mach_passed}
 use Rattle.stoney.specs.declared.StoneyNose.{StoneyNose}
-use Rattle.stoney.specs.Points.{Point, points, rises, nose_rises, positive_at, tail_rises}
+use Rattle.stoney.specs.Points.{Point, points, rises, positive_at, tail_rises}
+use Rattle.stoney.proofs.Rises.{nose_rises}
 use Rattle.stoney.specs.Lookup.{is_short_of, walk, lookup, value_and_slope}
 use Rattle.walk.specs.Tests.{room_test, given_test, rising_test, flight_test}
 use Rattle.walk.specs.Walk.{Stand, reached, leg, went, read_at, walk_from, walk_of, start}

@@ -23,7 +23,8 @@ use Rattle.stoney.specs.declared.StoneyNose.{StoneyNose}
 use Rattle.stoney.specs.declared.StoneyNose.TheVariants.{PowerQuarter, PowerHalf, PowerThreeQuarters, ParabolaHalf, ParabolaThreeQuarters, Parabola, Ellipsoid, LvHaack, VonKarman}
 use Rattle.stoney.specs.declared.ValueAndSlope.{ValueAndSlope}
 use Rattle.stoney.specs.Tables.{noses}
-use Rattle.stoney.specs.Points.{Point, points, no_point, range_of, range_within, first_mach, from_1·2, every, holds_at, rises, nose_rises, tail_rises, positive_at, rises_at}
+use Rattle.stoney.specs.Points.{Point, points, no_point, range_of, range_within, first_mach, from_1·2, every, holds_at, rises, tail_rises, positive_at, rises_at}
+use Rattle.stoney.proofs.Rises.{nose_rises}
 use Rattle.stoney.specs.Lookup.{subsonic_mach_limit, before, line, held, is_short_of, walk, lookup, value_and_slope}
 
 -- ---- the points of a nose
