@@ -1,4 +1,4 @@
-//! Links the archive that `rt staticlib cobalnis` makes: from the folder that COBALNIS_LIB names,
+//! Links the archive that `tools/build.sh cobalnis` makes: from the folder that COBALNIS_LIB names,
 //! else from ../target/staticlib beside this folder.
 
 use std::env;
@@ -31,7 +31,7 @@ fn main() {
 
 fn stop(archive: &Path) -> ! {
     eprintln!("{} isn't there.", archive.display());
-    eprintln!("Run `rt staticlib cobalnis` at the repository's top,");
+    eprintln!("Run `tools/build.sh cobalnis` at the repository's top,");
     eprintln!("or name the archive's folder in COBALNIS_LIB.");
     exit(1)
 }

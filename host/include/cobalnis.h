@@ -1,5 +1,6 @@
 /* The drag of a model rocket's noses, skin and base, and the sheet that adds
- * them: the C interface of `rt staticlib cobalnis`, for C11 and C++.
+ * them: the C interface of libcobalnis.a (`tools/build.sh cobalnis`), for
+ * C11 and C++.
  *
  * First come the functions of the library, on numbers and words; after them
  * structs that lie in memory as those words do, and typed functions over

@@ -1,4 +1,4 @@
-// The library for programs in C and Rust (`rt staticlib cobalnis`): functions on numbers and slices that reach every function of
+// The library that programs in C and Rust call (crates/cobalnis_c): functions on numbers and slices that reach every function of
 // docs/REFERENCE.md, Ported, the walk along a table, the sheet's calls, the cards and a float's class. Each tests its own input, and none has a
 // `requires`; what a caller owes is valid memory alone.
 //

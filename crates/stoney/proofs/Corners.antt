@@ -17,7 +17,7 @@ use Rattle.stoney.specs.declared.StoneyNose.{StoneyNose}
 use Rattle.stoney.specs.Tables.{noses}
 use Rattle.stoney.specs.Points.{Point, points, no_point, first_mach, from_1·2, range_within, every, holds_at}
 use Rattle.stoney.specs.Lookup.{line, is_short_of, walk, lookup, value_and_slope}
-use Rattle.stoney.proofs.Segments.{point_of, count_is, 1·2, at_limit, starts}
+use Rattle.stoney.specs.Segments.{point_of, count_is, 1·2, at_limit, starts}
 use Rattle.stoney.specs.BrokenLine.{start, corners}
 use Rattle.stoney.proofs.RunDown.{run_down}
 

@@ -14,7 +14,8 @@ use Rattle.stoney.specs.declared.StoneyNose.{StoneyNose}
 use Rattle.stoney.specs.declared.StoneyNose.TheVariants.{PowerQuarter, PowerHalf, PowerThreeQuarters, ParabolaHalf, ParabolaThreeQuarters, Parabola, Ellipsoid, LvHaack, VonKarman}
 use Rattle.stoney.specs.Points.{Point, points, first_mach, from_1·2}
 use Rattle.stoney.specs.Lookup.{before, line, value_and_slope}
-use Rattle.stoney.proofs.Segments.{point_of, at_limit, below_first}
+use Rattle.stoney.specs.Segments.{point_of, at_limit}
+use Rattle.stoney.proofs.Segments.{below_first}
 
 -- what the two first points have, by computing
 record Late (p : Point) : Type 0 where

@@ -1,52 +1,30 @@
 -- Which part of a table holds a Mach number M, for every nose and every float: at its own points a table has its own drag, with the slope of the segment to the
 -- right; from a point on up to the next one the line between the two holds; from the last point on its drag is held, with slope 0; below the first point a table
 -- that starts above Mach 0.8 is run down (proofs/RunDown.antt), and below Mach 0.8 every table is 0. The laws for all M rest on rising Machs (`nose_rises`).
-use Rattle.std.specs.Prelude.{◌≡◌, Bool, true, false, ◌&&◌, cond, negsuc, T, get_or, Float}
+use Rattle.std.specs.Prelude.{◌≡◌, Bool, true, false, ◌&&◌, cond, T, get_or, Float}
 use Rattle.std.proofs.Math.Path.{refl}
 use Rattle.std.proofs.Common.{sym, ap, ◌∙◌, subst, le_of_suc-le-suc, le_of_lt, not-suc-le-zero}
 use mathlib.Core.List.{List, [], ◌∷◌}
 use Prim.Native.Nat.{ℕ, zero, suc, ◌-◌, ◌<◌}
 use native.Mathlib.Omega.{arith}
 use Rattle.std.proofs.Math.ListN.{length}
-use Rattle.std.specs.Float.{nan, binary64}
+use Rattle.std.specs.Float.{nan}
 use Rattle.std.specs.Float.Ieee.{of_bits, to_bits, fits, round, sum, neg, add, sub, mul, div, lt, eq, le}
 use Rattle.std.specs.Float.Ieee.Bits.{is_true}
 use Rattle.std.specs.Float.Ieee.Fits.{and_l, and_r}
 use Rattle.std.specs.Float.Ieee.Positive.{positive}
 use Rattle.elementary.specs.Arithmetic.{◌⊖◌, ◌⊘◌, ◌≺◌, ◌≼◌}
 use Rattle.elementary.specs.Constants.{0·0, 0·8}
-use Rattle.elementary.specs.Split.{two^}
 use Rattle.elementary.specs.Tests.{between}
 use Rattle.elementary.specs.Equal.{same, same_is}
 use Rattle.elementary.specs.Order.{itself, not_above, not_at_most, lt_le, le_through, lt_through}
 use Rattle.stoney.specs.declared.StoneyNose.{StoneyNose}
 use Rattle.stoney.specs.declared.StoneyNose.TheVariants.{PowerQuarter, PowerHalf, PowerThreeQuarters, ParabolaHalf, ParabolaThreeQuarters, Parabola, Ellipsoid, LvHaack, VonKarman}
-use Rattle.stoney.specs.declared.ValueAndSlope.{ValueAndSlope}
 use Rattle.stoney.specs.Tables.{noses}
 use Rattle.stoney.specs.Points.{Point, points, no_point, range_of, range_within, first_mach, from_1·2, every, holds_at, rises, tail_rises, positive_at, rises_at}
 use Rattle.stoney.proofs.Rises.{nose_rises}
-use Rattle.stoney.specs.Lookup.{subsonic_mach_limit, before, line, held, is_short_of, walk, lookup, value_and_slope}
-
--- ---- the points of a nose
-
--- the k-th point from 0, and the last
-abbrev pub point_of : StoneyNose → ℕ → Point
-point_of nose k = get_or (points nose) k no_point
-
-abbrev pub last_of : StoneyNose → Point
-last_of nose = point_of nose ((range_of nose).count - 1)
-
-pub count_is : (nose : StoneyNose) → length (points nose) ≡ (range_of nose).count
-unfolding points
-count_is PowerQuarter = refl
-count_is PowerHalf = refl
-count_is PowerThreeQuarters = refl
-count_is ParabolaHalf = refl
-count_is ParabolaThreeQuarters = refl
-count_is Parabola = refl
-count_is Ellipsoid = refl
-count_is LvHaack = refl
-count_is VonKarman = refl
+use Rattle.stoney.specs.Segments.{point_of, last_of, count_is, reaches, 1·2, at_limit, starts, nothing}
+use Rattle.stoney.specs.Lookup.{before, line, held, is_short_of, walk, lookup, value_and_slope}
 
 -- ---- "at a tabled Mach": the point's own drag, with the slope of the segment to its right, and 0 at the last point
 
@@ -89,11 +67,6 @@ module _ (nose : StoneyNose) where
       in_list (points nose) k (holds_at (λ nose. to_the_right nose (points nose)) all_to_the_right nose) (subst (λ (n : ℕ). suc k < n) (sym (count_is nose)) h)
 
 -- ---- a segment runs from its point to the next one: at the next point's Mach it has that point's drag, to 2 ^ -58
-
-abbrev pub reaches : List Point → Bool
-reaches [] = true
-reaches (p ∷ []) = true
-reaches (p ∷ q ∷ rest) = between (neg (two^ (negsuc 57))) ((line p q q.mach).value ⊖ q.drag) (two^ (negsuc 57)) && reaches (q ∷ rest)
 
 all_reach : T (every (λ nose. reaches (points nose)) noses)
 unfolding line points between of_bits round sum neg add sub mul div lt eq le
@@ -192,28 +165,6 @@ unfolding value_and_slope
 below_first nose M u = before_all M (points nose) (omega (arith, count_is nose, (range_within nose).0)) u
 
 -- ---- below the first point
-
-abbrev pub 1·2 : Float
-1·2 = round binary64 false 12 10
-
--- Mach 0.8 with drag 0: where the other seven start, and where these two are run down to
-abbrev pub at_limit : Point
-at_limit = record { mach = subsonic_mach_limit; drag = 0·0 }
-
-pub starts : (nose : StoneyNose) → cond (from_1·2 nose) (first_mach nose ≡ 1·2) (point_of nose 0 ≡ at_limit)
-unfolding points round of_bits
-starts PowerQuarter = refl
-starts PowerHalf = refl
-starts PowerThreeQuarters = refl
-starts ParabolaHalf = refl
-starts ParabolaThreeQuarters = refl
-starts Parabola = refl
-starts Ellipsoid = refl
-starts LvHaack = refl
-starts VonKarman = refl
-
-abbrev pub nothing : ValueAndSlope
-nothing = record { value = 0·0; slope = 0·0 }
 
 -- Mach 0.8 is a positive number, below 1.2
 limit_facts : T (positive 0·8) × T (0·8 ≺ 1·2) × T (positive 1·2) × ((0·8 ≺ 0·8) ≡ false)

@@ -14,7 +14,8 @@ use Rattle.aero_error.specs.declared.Check.TheVariants.{Passed}
 use Rattle.stoney.specs.declared.StoneyNose.{StoneyNose}
 use Rattle.stoney.specs.Points.{Point, points, range_of, range_within, rises, tail_rises}
 use Rattle.stoney.proofs.Rises.{nose_rises}
-use Rattle.stoney.proofs.Segments.{count_is, first_reached}
+use Rattle.stoney.specs.Segments.{count_is}
+use Rattle.stoney.proofs.Segments.{first_reached}
 use Rattle.walk.specs.Tests.{flight_test}
 use Rattle.walk.specs.Walk.{Stand, reached, leg, went, walk_from, start, walk_of}
 use Rattle.walk.specs.Cost.{reached_by, short_of, last, cost, cost_of}
