@@ -15,7 +15,6 @@ use Rattle.std.specs.Float.Ieee.Fits.{and_l, and_r}
 use Rattle.std.specs.Float.Ieee.Positive.{positive}
 use Rattle.elementary.specs.Arithmetic.{◌⊖◌, ◌⊘◌, ◌≺◌, ◌≼◌}
 use Rattle.elementary.specs.Constants.{0·0, 0·8}
-use Rattle.elementary.specs.Tests.{between}
 use Rattle.elementary.specs.Equal.{same, same_is}
 use Rattle.elementary.specs.Order.{itself, not_above, not_at_most, lt_le, le_through, lt_through}
 use Rattle.stoney.specs.declared.StoneyNose.{StoneyNose}
@@ -23,7 +22,7 @@ use Rattle.stoney.specs.declared.StoneyNose.TheVariants.{PowerQuarter, PowerHalf
 use Rattle.stoney.specs.Tables.{noses}
 use Rattle.stoney.specs.Points.{Point, points, no_point, range_of, range_within, first_mach, from_1·2, every, holds_at, rises, tail_rises, positive_at, rises_at}
 use Rattle.stoney.proofs.Rises.{nose_rises}
-use Rattle.stoney.specs.Segments.{point_of, last_of, count_is, reaches, 1·2, at_limit, starts, nothing}
+use Rattle.stoney.specs.Segments.{point_of, last_of, count_is, 1·2, at_limit, starts, nothing}
 use Rattle.stoney.specs.Lookup.{before, line, held, is_short_of, walk, lookup, value_and_slope}
 
 -- ---- "at a tabled Mach": the point's own drag, with the slope of the segment to its right, and 0 at the last point
@@ -65,15 +64,6 @@ module _ (nose : StoneyNose) where
       value_and_slope nose p.mach ≡ record { value = p.drag; slope = (q.drag ⊖ p.drag) ⊘ (q.mach ⊖ p.mach) }
   at_point k h =
       in_list (points nose) k (holds_at (λ nose. to_the_right nose (points nose)) all_to_the_right nose) (subst (λ (n : ℕ). suc k < n) (sym (count_is nose)) h)
-
--- ---- a segment runs from its point to the next one: at the next point's Mach it has that point's drag, to 2 ^ -58
-
-all_reach : T (every (λ nose. reaches (points nose)) noses)
-unfolding line points between of_bits round sum neg add sub mul div lt eq le
-all_reach = tt
-
-pub nose_reaches : (nose : StoneyNose) → T (reaches (points nose))
-nose_reaches nose = holds_at (λ nose. reaches (points nose)) all_reach nose
 
 -- ---- a walk through rising points
 

@@ -1,12 +1,12 @@
--- What the laws of the segments speak of (proofs/Segments.antt): the points of a nose by number, whether each segment reaches the next point, the two Machs at
--- which a table may start, and what it says where it says nothing.
-use Rattle.std.specs.Prelude.{◌≡◌, Bool, true, false, ◌&&◌, cond, negsuc, get_or, Float}
+-- What the laws of the segments speak of (proofs/Segments.antt): the points of a nose by number, that each segment reaches the next point, the two Machs at
+-- which a table may start, and what it says below Mach 0.8.
+use Rattle.std.specs.Prelude.{◌≡◌, Bool, true, false, ◌&&◌, cond, negsuc, T, get_or, Float}
 use Rattle.std.proofs.Math.Path.{refl}
 use mathlib.Core.List.{List, [], ◌∷◌}
 use Prim.Native.Nat.{ℕ, ◌-◌}
 use Rattle.std.proofs.Math.ListN.{length}
 use Rattle.std.specs.Float.{binary64}
-use Rattle.std.specs.Float.Ieee.{of_bits, round, neg}
+use Rattle.std.specs.Float.Ieee.{of_bits, round, sum, neg, add, sub, mul, div, lt, eq, le}
 use Rattle.elementary.specs.Arithmetic.{◌⊖◌}
 use Rattle.elementary.specs.Constants.{0·0}
 use Rattle.elementary.specs.Split.{two^}
@@ -14,7 +14,8 @@ use Rattle.elementary.specs.Tests.{between}
 use Rattle.stoney.specs.declared.StoneyNose.{StoneyNose}
 use Rattle.stoney.specs.declared.StoneyNose.TheVariants.{PowerQuarter, PowerHalf, PowerThreeQuarters, ParabolaHalf, ParabolaThreeQuarters, Parabola, Ellipsoid, LvHaack, VonKarman}
 use Rattle.stoney.specs.declared.ValueAndSlope.{ValueAndSlope}
-use Rattle.stoney.specs.Points.{Point, points, no_point, range_of, first_mach, from_1·2}
+use Rattle.stoney.specs.Tables.{noses}
+use Rattle.stoney.specs.Points.{Point, points, no_point, range_of, first_mach, from_1·2, every, holds_at}
 use Rattle.stoney.specs.Lookup.{subsonic_mach_limit, line}
 
 -- ---- the points of a nose
@@ -44,6 +45,13 @@ abbrev pub reaches : List Point → Bool
 reaches [] = true
 reaches (p ∷ []) = true
 reaches (p ∷ q ∷ rest) = between (neg (two^ (negsuc 57))) ((line p q q.mach).value ⊖ q.drag) (two^ (negsuc 57)) && reaches (q ∷ rest)
+
+all_reach : T (every (λ nose. reaches (points nose)) noses)
+unfolding line points between of_bits round sum neg add sub mul div lt eq le
+all_reach = tt
+
+pub nose_reaches : (nose : StoneyNose) → T (reaches (points nose))
+nose_reaches nose = holds_at (λ nose. reaches (points nose)) all_reach nose
 
 -- ---- where a table starts
 

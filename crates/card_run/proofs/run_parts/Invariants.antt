@@ -1,3 +1,4 @@
+-- The loop of `run_parts`: at each turn all the part cards from there on come to what all of them came to at the start.
 use Prim.Native.Nat.{◌-◌}
 use Rattle.sheet_data.specs.Contents.{Fits}
 use Rattle.card_run.specs.Run.{all_part_cards}

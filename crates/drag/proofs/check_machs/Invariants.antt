@@ -1,3 +1,4 @@
+-- The loop of `check_machs`: the Machs before i have passed.
 use mathlib.Core.Path.{◌≡◌}
 use Prim.Native.Nat.{◌-◌, ◌≤◌}
 use lib.ListN.{length, get_or}

@@ -1,3 +1,4 @@
+-- The loop of `replay_all`: the measure is the number of turns that are left. Nothing has to hold from turn to turn.
 use Rattle.formula_vectors.proofs.replay_all.Given as goal
 
 abbrev pub invariant-loop-turns : goal.invariant-loop-turns

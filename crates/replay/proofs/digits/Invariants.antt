@@ -1,3 +1,5 @@
+-- The loop of `digits`: the digits passed spell `number`, which is below 16 to the power of their count, and reading on from there is reading the whole text from 0.
+-- The measure is what is left of the text.
 use Prim.Native.Nat.{◌-◌, ◌^◌, ◌≤◌, ◌<◌}
 use mathlib.Core.Path.{◌≡◌}
 use lib.ListN.{length, drop}

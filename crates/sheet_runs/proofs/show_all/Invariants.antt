@@ -1,3 +1,4 @@
+-- The loop of `show_all`: nothing has to hold from turn to turn; what is left of the bytes falls.
 use Prim.Native.Nat.{◌-◌}
 use lib.ListN.{length}
 use Rattle.sheet_runs.proofs.show_all.Given as goal

@@ -1,3 +1,4 @@
+-- The loop of `put_hex`: with n digits still to put, the lowest first, the buffer comes to the same.
 use mathlib.Core.Path.{◌≡◌}
 use Prim.Native.Nat.{◌≤◌}
 use lib.ListN.{length}

@@ -1,3 +1,4 @@
+-- The loop of `put_name`: putting the bytes that are left comes to putting the whole name.
 use lib.ListN.{length, drop}
 use mathlib.Core.Path.{◌≡◌}
 use Prim.Native.Nat.{◌+◌, ◌-◌, ◌≤◌}

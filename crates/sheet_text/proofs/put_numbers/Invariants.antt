@@ -1,3 +1,4 @@
+-- The loop of `put_numbers`: putting the numbers that are left comes to putting all of them.
 use lib.ListN.{length, drop}
 use mathlib.Core.Path.{◌≡◌}
 use Prim.Native.Nat.{◌+◌, ◌-◌, ◌*◌, ◌≤◌}

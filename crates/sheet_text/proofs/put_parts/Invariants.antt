@@ -1,3 +1,4 @@
+-- The loop of `put_parts`: what puts the lines from a place on after those before it puts them all.
 use mathlib.Core.List.{List}
 use Prim.Native.Nat.{ℕ, ◌+◌, ◌-◌, ◌*◌, ◌≤◌}
 use lib.Ieee.{Float}

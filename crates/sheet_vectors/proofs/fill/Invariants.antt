@@ -1,3 +1,4 @@
+-- The loop of `fill`: the slice keeps its length, and the measure is what is left of it.
 use Rattle.std.proofs.Common.{◌≡◌, ◌-◌, ◌≤◌, length}
 use Rattle.sheet_vectors.proofs.fill.Given as goal
 

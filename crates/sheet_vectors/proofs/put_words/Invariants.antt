@@ -1,3 +1,4 @@
+-- The loop of `put_words`: the measure is how many words are left of the six.
 use Rattle.std.proofs.Common.{◌-◌, ◌≤◌}
 use Rattle.sheet_vectors.proofs.put_words.Given as goal
 

@@ -1,3 +1,4 @@
+-- The loop of `with_cells`: the measure is what is left of the cells.
 use Rattle.std.proofs.Common.{◌-◌, ◌≤◌, length}
 use Rattle.sheet_vectors.proofs.with_cells.Given as goal
 

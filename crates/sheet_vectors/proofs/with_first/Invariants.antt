@@ -1,3 +1,4 @@
+-- The loop of `with_first`: the measure is how many are left of the n.
 use Rattle.std.proofs.Common.{◌-◌, ◌≤◌}
 use Rattle.sheet_vectors.proofs.with_first.Given as goal
 

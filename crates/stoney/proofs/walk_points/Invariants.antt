@@ -1,3 +1,4 @@
+-- The loop of `walk_points`: the definition's walk goes on from the point (m0, c0) through the points from `place` on.
 use Prim.Native.Nat.{◌+◌, ◌-◌, ◌≤◌}
 use mathlib.Core.Path.{◌≡◌}
 use Rattle.stoney.specs.Lookup.{walk, lookup}

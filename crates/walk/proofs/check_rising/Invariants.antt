@@ -1,3 +1,4 @@
+-- The loop of `check_rising`: of the Machs before i none is below its forerunner.
 use mathlib.Core.Path.{◌≡◌}
 use Prim.Native.Nat.{suc, ◌-◌, ◌≤◌}
 use lib.ListN.{length, get_or}

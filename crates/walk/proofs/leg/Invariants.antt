@@ -1,3 +1,4 @@
+-- The loop of `leg`: the query as told is what it has met so far, and then the query from the points that are left.
 use mathlib.Core.Path.{◌≡◌}
 use mathlib.Core.List.{List}
 use Prim.Native.Nat.{◌-◌, ◌≤◌}

@@ -1,3 +1,4 @@
+-- The loop of `holds`: the measure is how many cells are left of the nine.
 use Prim.Native.Nat.{◌-◌, ◌≤◌}
 use Rattle.walk_vectors.proofs.holds.Given as goal
 

@@ -1,3 +1,4 @@
+-- The loop of `put`: the measure is how many items are left of the nine.
 use mathlib.Core.Path.{◌≡◌}
 use Prim.Native.Nat.{◌-◌, ◌≤◌}
 use lib.ListN.{length}

@@ -1,3 +1,4 @@
+-- The loop of `replay_all`: both buffers keep their 257 numbers, and the measure is the number of turns that are left.
 use mathlib.Core.Path.{◌≡◌}
 use lib.ListN.{length}
 use Rattle.walk_vectors.proofs.replay_all.Given as goal

@@ -1,3 +1,4 @@
+-- The loop of `read_numbers`: after i turns the first i slots hold their numbers.
 use mathlib.Core.Path.{◌≡◌}
 use Prim.Native.Nat.{◌-◌, ◌≤◌}
 use Rattle.cards.specs.Fields.{numbers_at}

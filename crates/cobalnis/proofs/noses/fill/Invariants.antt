@@ -1,3 +1,4 @@
+-- The loop of `fill`: writing the coefficients from i on comes to writing all of them.
 use mathlib.Core.Path.{◌≡◌}
 use Prim.Native.Nat.{◌-◌, ◌≤◌}
 use lib.ListN.{length, drop}

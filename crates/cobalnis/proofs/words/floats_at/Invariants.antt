@@ -1,3 +1,4 @@
+-- The loop of `floats_at`: after i turns the first i slots hold their numbers.
 use Prim.Native.Nat.{◌-◌, ◌*◌}
 use lib.ListN.{drop}
 use Rattle.sheet_data.specs.Layout.{most_columns}

@@ -1,3 +1,4 @@
+-- The loop of `parts_of`: after i turns the first i slots hold their parts.
 use Prim.Native.Nat.{◌-◌, ◌*◌}
 use lib.ListN.{drop}
 use Rattle.sheet_data.specs.Layout.{most_parts}

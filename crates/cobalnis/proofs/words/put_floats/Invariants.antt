@@ -1,3 +1,4 @@
+-- The loop of `put_floats`: writing the numbers from i on comes to writing all of them.
 use mathlib.Core.Path.{◌≡◌}
 use Prim.Native.Nat.{◌+◌, ◌-◌, ◌≤◌}
 use lib.ListN.{drop}

@@ -1,3 +1,4 @@
+-- The loop of `put_parts`: writing the parts from i on comes to writing all of them.
 use mathlib.Core.Path.{◌≡◌}
 use Prim.Native.Nat.{◌+◌, ◌-◌, ◌*◌, ◌≤◌}
 use lib.ListN.{drop}

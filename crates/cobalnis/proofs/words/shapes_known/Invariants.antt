@@ -1,3 +1,4 @@
+-- The loop of `shapes_known`: asking the parts from i on comes to asking all of them.
 use mathlib.Core.Path.{◌≡◌}
 use Prim.Native.Nat.{◌-◌, ◌*◌, ◌≤◌}
 use lib.ListN.{drop}

@@ -1,3 +1,4 @@
+-- The loop of `fill_base`: the cells before i are filled.
 use Prim.Native.Nat.{◌-◌}
 use lib.ListN.{length, get_or}
 use lib.Ieee.{nan}

@@ -1,3 +1,4 @@
+-- The loop of `inserted`: the slots up to i hold the new parts.
 use mathlib.Core.Path.{◌≡◌}
 use mathlib.Core.List.{◌++◌}
 use Prim.Native.Nat.{◌+◌, ◌-◌, ◌≤◌}

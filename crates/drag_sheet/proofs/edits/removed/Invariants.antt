@@ -1,3 +1,4 @@
+-- The loop of `removed`: the slots before i - 1 hold the new parts.
 use mathlib.Core.Path.{◌≡◌}
 use mathlib.Core.List.{◌++◌}
 use Prim.Native.Nat.{◌+◌, ◌-◌, ◌≤◌}

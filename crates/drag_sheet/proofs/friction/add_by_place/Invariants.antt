@@ -1,3 +1,4 @@
+-- The loop of `add_by_place`: the frictions of the parts before the place are added.
 use mathlib.Core.Path.{◌≡◌}
 use Prim.Native.Nat.{◌-◌, ◌≤◌}
 use lib.ListN.{length, get_or}

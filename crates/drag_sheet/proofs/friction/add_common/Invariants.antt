@@ -1,3 +1,4 @@
+-- The loop of `add_common`: the frictions of the parts before the place are added, by four and then one by one.
 use mathlib.Core.Path.{◌≡◌}
 use Prim.Native.Nat.{◌-◌, ◌≤◌}
 use lib.ListN.{length, get_or}

@@ -1,3 +1,4 @@
+-- The loop of `add_four`: the cells before i are added, the others are as they were.
 use Prim.Native.Nat.{◌-◌}
 use lib.ListN.{length, get_or}
 use lib.Ieee.{nan}

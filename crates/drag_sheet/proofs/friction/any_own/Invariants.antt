@@ -1,3 +1,4 @@
+-- The loop of `any_own`: whether any part before the place has one.
 use mathlib.Core.Path.{◌≡◌}
 use Prim.Native.Nat.{◌-◌, ◌≤◌}
 use Rattle.drag_sheet.specs.Body.{any_own}

@@ -1,3 +1,4 @@
+-- The loop of `fill_on`: the cells before i are filled.
 use Prim.Native.Nat.{◌-◌}
 use lib.ListN.{length}
 use Rattle.sheet_data.specs.Tables.{Filling}

@@ -1,3 +1,4 @@
+-- The loop of `flows_of`: the flows of the columns before i are there.
 use mathlib.Core.Bool.{true}
 use Prim.Native.Nat.{◌-◌, ◌≤◌}
 use lib.ListN.{get_or}

@@ -1,3 +1,4 @@
+-- The loop of `fill_row`: the cells before i are made.
 use mathlib.Core.Path.{◌≡◌}
 use Prim.Native.Nat.{◌-◌}
 use lib.ListN.{length, get_or}

@@ -1,3 +1,4 @@
+-- The loop of `add_parts`: the sum of the rows before this one.
 use mathlib.Core.Path.{◌≡◌}
 use mathlib.Core.List.{List}
 use Prim.Native.Nat.{ℕ, ◌-◌, ◌*◌, ◌≤◌}

@@ -1,3 +1,4 @@
+-- The loop of `copy_row`: the cells before i are copied.
 use Prim.Native.Nat.{◌-◌}
 use lib.ListN.{length, get_or}
 use lib.Ieee.{nan}

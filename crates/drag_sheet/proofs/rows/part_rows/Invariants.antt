@@ -1,3 +1,4 @@
+-- The loop of `part_rows`: the rows of the places before this one are written, and each of them could be.
 use mathlib.Core.List.{List}
 use Prim.Native.Nat.{ℕ, ◌-◌}
 use lib.ListN.{take}

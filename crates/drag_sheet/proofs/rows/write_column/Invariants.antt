@@ -1,3 +1,4 @@
+-- The loop of `write_column`: the cells of the rows before this one are put.
 use Prim.Native.Nat.{◌-◌}
 use Rattle.drag_sheet.proofs.Laying.{Putting}
 use Rattle.drag_sheet.proofs.rows.write_column.Given as goal

@@ -1,3 +1,4 @@
+-- The loop of `write_frictions`: the friction rows of the finishes before this one are written.
 use Prim.Native.Nat.{◌-◌}
 use Rattle.sheet_data.specs.Layout.{finishes, friction_row}
 use Rattle.sheet_data.specs.Contents.{contents_of}

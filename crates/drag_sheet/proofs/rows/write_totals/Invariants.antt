@@ -1,3 +1,4 @@
+-- The loop of `write_totals`: the totals of the finishes before this one are written.
 use Prim.Native.Nat.{◌-◌}
 use Rattle.drag_sheet.proofs.MadeRows.{TotalsDone}
 use Rattle.drag_sheet.proofs.rows.write_totals.Given as goal

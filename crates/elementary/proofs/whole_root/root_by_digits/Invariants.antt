@@ -1,3 +1,5 @@
+-- The loop of `root_by_digits`: what has been read is n, of which `root` is the root so far, and n and `rest` together are w × 2 ^ 10 × 4 ^ digit, so that after 53
+-- digits n is w × 2 ^ 52.
 use mathlib.Core.Path.{◌≡◌}
 use Prim.Native.Nat.{ℕ, ◌+◌, ◌-◌, ◌*◌, ◌^◌, ◌≤◌, ◌<◌}
 use Rattle.elementary.proofs.Root.{Rooted}

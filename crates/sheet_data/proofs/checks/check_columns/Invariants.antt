@@ -1,3 +1,4 @@
+-- The loop of `check_columns`: the columns before i have passed.
 use mathlib.Core.Path.{◌≡◌}
 use Prim.Native.Nat.{◌-◌, ◌≤◌}
 use lib.ListN.{get_or}

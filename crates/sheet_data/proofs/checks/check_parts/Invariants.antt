@@ -1,3 +1,4 @@
+-- The loop of `check_parts`: the parts before the place have passed.
 use mathlib.Core.Path.{◌≡◌}
 use Prim.Native.Nat.{◌-◌, ◌≤◌}
 use lib.ListN.{take}
