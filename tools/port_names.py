@@ -172,15 +172,10 @@ def clauses(text, new):
 
 def main():
     new = renamings()
-    for path in proof_files():
+    turns = [(path, antt) for path in proof_files()] + [(path, clauses) for path in source_files()]
+    for path, turn in turns:
         old = read(path)
-        text = antt(old, new)
-        if text != old:
-            with open(path, "w", encoding="utf-8") as f:
-                f.write(text)
-    for path in source_files():
-        old = read(path)
-        text = clauses(old, new)
+        text = turn(old, new)
         if text != old:
             with open(path, "w", encoding="utf-8") as f:
                 f.write(text)

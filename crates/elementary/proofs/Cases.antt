@@ -3,7 +3,7 @@ use mathlib.Core.Path.{◌≡◌}
 use Prim.Native.Nat.{ℕ, zero, suc, ◌+◌, ◌≤◌}
 use native.Mathlib.Omega.{arith}
 
--- n is none of the k numbers from m on, as the last arm of a `match` has it
+-- n is none of the k numbers from m on
 abbrev pub NoneFrom : ℕ → ℕ → ℕ → Type 0
 NoneFrom m zero n = Unit
 NoneFrom m (suc k) n = NoneFrom m k n × (n ≡ m + k → ⊥)

@@ -1,4 +1,4 @@
--- `card_run::run_parts` meets its contract: at each turn all the part cards from there on come to what all of them came to at the start.
+-- `card_run::run_parts` meets its contract.
 use Prim.Native.Nat.{ℕ}
 use Rattle.sheet_data.specs.Contents.{Fits}
 use Rattle.card_run.specs.Run.{stopped, run_stopped, all_part_cards}

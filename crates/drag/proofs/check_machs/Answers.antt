@@ -1,4 +1,4 @@
--- `check_machs` meets its contract: the Machs before i have passed.
+-- `check_machs` meets its contract.
 use mathlib.Core.Path.{sym, ◌∙◌}
 use native.Mathlib.Omega.{arith}
 use Rattle.aero_error.specs.CheckLaws.{up_none, up_more, up_failed, up_end}

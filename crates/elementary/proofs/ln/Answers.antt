@@ -5,7 +5,6 @@ use Rattle.elementary.specs.Steps.{LN}
 use Rattle.elementary.proofs.ln.Goals as goal
 
 pub ln_steps-requires : goal.ln_steps-requires
-unfolding LN
 ln_steps-requires c = subst TakenIn c.in-Finite.is c.positive_parts.ensures.1
 
 pub returns-in-Not : goal.returns-in-Not

@@ -14,7 +14,6 @@ unfolding SQRT of_bits neg
 returns-else-negative c = simp (← c.positive_parts.ensures.0, c.in-Zero.is, c.if-negative.false)
 
 pub sqrt_steps-requires : goal.sqrt_steps-requires
-unfolding SQRT
 sqrt_steps-requires c = subst TakenIn c.in-Finite.is c.positive_parts.ensures.1
 
 pub returns-in-Not : goal.returns-in-Not

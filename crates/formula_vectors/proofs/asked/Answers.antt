@@ -1,6 +1,6 @@
 -- `formula_vectors::asked` meets its contract. Each arm is the case of its tag, and the last one has none of the tags.
-use Rattle.std.proofs.Common.{◌≡◌, arith}
-use borrow.Author.Tests.{ne_eqb}
+use Rattle.std.proofs.Common.{arith}
+use Rattle.std.proofs.lemmas.Bool.Decides.{nat_tests}
 use Rattle.formula_vectors.specs.Lines.{asked}
 use Rattle.formula_vectors.proofs.asked.Goals as goal
 
@@ -30,12 +30,4 @@ returns-in-99 c = simp (c.is_answer-in-99.ensures, c.curve.ensures, c.in-99.is)
 
 pub returns-in_default : goal.returns-in_default
 unfolding asked
-returns-in_default c =
-    simp (
-      ne_eqb c.args.tag 102 (λ (e : c.args.tag ≡ 102). omega arith),
-      ne_eqb c.args.tag 100 (λ (e : c.args.tag ≡ 100). omega arith),
-      ne_eqb c.args.tag 107 (λ (e : c.args.tag ≡ 107). omega arith),
-      ne_eqb c.args.tag 112 (λ (e : c.args.tag ≡ 112). omega arith),
-      ne_eqb c.args.tag 108 (λ (e : c.args.tag ≡ 108). omega arith),
-      ne_eqb c.args.tag 99 (λ (e : c.args.tag ≡ 99). omega arith),
-    )
+returns-in_default c = grind (arith, nat_tests)

@@ -1,6 +1,7 @@
 -- `formula_vectors::kind_of` meets its contract.
-use Rattle.std.proofs.Common.{◌≡◌, arith}
-use borrow.Author.Tests.{lt-ltb, le-ltb, ne_eqb}
+use Rattle.std.proofs.Common.{arith}
+use Rattle.std.proofs.lemmas.Bool.Decides.{nat_tests}
+use borrow.Author.Tests.{lt-ltb, le-ltb}
 use Rattle.formula_vectors.specs.Lines.{kind_of}
 use Rattle.formula_vectors.proofs.kind_of.Goals as goal
 
@@ -34,12 +35,4 @@ returns-in-99 c = simp c.in-99.is
 
 pub returns-in_default : goal.returns-in_default
 unfolding kind_of
-returns-in_default c =
-    simp (
-      ne_eqb c.args.tag 102 (λ (e : c.args.tag ≡ 102). omega arith),
-      ne_eqb c.args.tag 100 (λ (e : c.args.tag ≡ 100). omega arith),
-      ne_eqb c.args.tag 107 (λ (e : c.args.tag ≡ 107). omega arith),
-      ne_eqb c.args.tag 112 (λ (e : c.args.tag ≡ 112). omega arith),
-      ne_eqb c.args.tag 108 (λ (e : c.args.tag ≡ 108). omega arith),
-      ne_eqb c.args.tag 99 (λ (e : c.args.tag ≡ 99). omega arith),
-    )
+returns-in_default c = grind (arith, nat_tests)

@@ -1,4 +1,4 @@
--- `formula_vectors::replay_all` is safe and ends: the measure is the number of turns that are left. Nothing has to hold from turn to turn.
+-- `formula_vectors::replay_all` is safe and ends.
 use Rattle.formula_vectors.proofs.replay_all.Goals as goal
 
 pub none-requires : goal.none-requires

@@ -12,5 +12,4 @@ unfolding nan_bits
 float_from_bits-above c = tt
 
 pub returns : goal.returns
-unfolding nan_bits
 returns c = search rules

@@ -1,5 +1,4 @@
--- `replay::digits` meets its contract. The loop's invariant: the digits passed spell `number`, which is below 16 to the power of
--- their count, and reading on from there is reading the whole text from 0. The measure is what is left of the text.
+-- `replay::digits` meets its contract.
 use Prim.Native.Nat.{ℕ, suc, ◌+◌, ◌*◌, ◌^◌, ◌<◌}
 use mathlib.Core.Path.{◌≡◌, refl}
 use native.Mathlib.Nat.{pow-le-pow_right, lt_of_lt_of_le}

@@ -3,8 +3,5 @@ use Prim.Native.Nat.{◌-◌}
 use lib.ListN.{length}
 use Rattle.sheet_runs.proofs.show_all.Given as goal
 
-abbrev pub invariant-loop-at : goal.invariant-loop-at
-invariant-loop-at l = Unit
-
 abbrev pub decreases-loop-at : goal.decreases-loop-at
 decreases-loop-at l = length l.s - l.at

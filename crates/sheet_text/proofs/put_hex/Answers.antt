@@ -1,4 +1,4 @@
--- `sheet_text::put_hex` meets its contract: with n digits still to put, the lowest first, the buffer comes to the same.
+-- `sheet_text::put_hex` meets its contract.
 use mathlib.Core.Path.{◌≡◌, refl, sym, ap, ◌∙◌}
 use Prim.Native.Nat.{ℕ, ◌+◌, ◌-◌, ◌/◌}
 use native.Mathlib.Omega.{arith}

@@ -1,4 +1,4 @@
--- `sheet_text::put_parts` meets its contract: what puts the lines from a place on after those before it puts them all.
+-- `sheet_text::put_parts` meets its contract.
 use mathlib.Core.Path.{◌≡◌, ap, ◌∙◌, subst}
 use mathlib.Core.List.{List, ◌++◌}
 use Prim.Native.Nat.{ℕ, ◌+◌, ◌-◌, ◌*◌, ◌≤◌, ◌<◌}

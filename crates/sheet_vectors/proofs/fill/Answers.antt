@@ -1,4 +1,4 @@
--- `sheet_vectors::fill` is safe and ends: the slice keeps its length, and the measure is what is left of it.
+-- `sheet_vectors::fill` is safe and ends.
 use Rattle.std.proofs.Common.{refl, arith, length-set}
 use Rattle.sheet_vectors.proofs.fill.Goals as goal
 

@@ -1,4 +1,4 @@
--- `sheet_vectors::put_words` is safe and ends: the measure is how many words are left of the six.
+-- `sheet_vectors::put_words` is safe and ends.
 use Rattle.sheet_vectors.proofs.put_words.Goals as goal
 
 pub word_at-at-requires : goal.word_at-at-requires

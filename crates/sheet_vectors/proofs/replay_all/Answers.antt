@@ -1,4 +1,4 @@
--- `sheet_vectors::replay_all` is safe and ends: the buffer keeps its cells, and the measure is the number of turns that are left.
+-- `sheet_vectors::replay_all` is safe and ends.
 use Rattle.std.proofs.Common.{refl}
 use Rattle.sheet_vectors.proofs.replay_all.Goals as goal
 

@@ -1,4 +1,4 @@
--- `sheet_vectors::with_cells` is safe and ends: the measure is what is left of the cells.
+-- `sheet_vectors::with_cells` is safe and ends.
 use Rattle.sheet_vectors.proofs.with_cells.Goals as goal
 
 pub to_bits-requires : goal.to_bits-requires

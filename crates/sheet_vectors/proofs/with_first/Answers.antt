@@ -1,4 +1,4 @@
--- `sheet_vectors::with_first` is safe and ends: the measure is how many are left of the n.
+-- `sheet_vectors::with_first` is safe and ends.
 use Rattle.sheet_vectors.proofs.with_first.Goals as goal
 
 pub with_part-sum-requires : goal.with_part-sum-requires

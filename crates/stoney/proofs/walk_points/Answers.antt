@@ -1,4 +1,4 @@
--- `walk_points` meets its contract. The loop's invariant: the definition's walk goes on from the point (m0, c0) through the points from `place` on.
+-- `walk_points` meets its contract.
 use Prim.Native.Nat.{◌+◌, ◌-◌}
 use mathlib.Core.Path.{◌≡◌, sym, ◌∙◌}
 use native.Mathlib.Omega.{arith}

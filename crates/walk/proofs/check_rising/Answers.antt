@@ -1,4 +1,4 @@
--- `check_rising` meets its contract: of the Machs before i none is below its forerunner.
+-- `check_rising` meets its contract.
 use mathlib.Core.Path.{sym}
 use native.Mathlib.Numerals.{add-one}
 use native.Mathlib.Omega.{arith}

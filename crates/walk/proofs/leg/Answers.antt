@@ -1,4 +1,4 @@
--- `leg` meets its contract. The loop's invariant: the query as told is what it has met so far, and then the query from the points that are left.
+-- `leg` meets its contract.
 use mathlib.Core.Path.{◌∙◌}
 use native.Mathlib.Omega.{arith}
 use Rattle.walk.proofs.Turns.{after_none, moves, stops, ends_past}

@@ -1,5 +1,4 @@
--- `walk_points` meets its contract. The loop's invariant: the whole walk is what was counted and written so far, and then the walk of the queries that are left
--- from where the last one ended. The sum stays small since the whole count is at most queries plus points.
+-- `walk_points` meets its contract. The sum stays small since the whole count is at most queries plus points.
 use mathlib.Core.Path.{refl, sym, ap, ◌∙◌}
 use Prim.Native.Nat.{ℕ, suc, ◌+◌, ◌-◌}
 use native.Mathlib.Numerals.{add-one}

@@ -1,5 +1,4 @@
 -- The loop of `walk_points`: the whole walk is what was counted and written so far, and then the walk of the queries that are left from where the last one ended.
--- The sum stays small since the whole count is at most queries plus points.
 use mathlib.Core.Path.{◌≡◌}
 use Prim.Native.Nat.{◌+◌, ◌-◌, ◌≤◌}
 use lib.ListN.{length, drop}

@@ -1,4 +1,4 @@
--- `walk_vectors::holds` is safe and ends: the measure is how many cells are left of the nine.
+-- `walk_vectors::holds` is safe and ends.
 use Rattle.walk_vectors.proofs.holds.Goals as goal
 
 pub place_of-requires : goal.place_of-requires

@@ -1,4 +1,4 @@
--- `walk_vectors::put` is safe and ends: the measure is how many items are left of the nine.
+-- `walk_vectors::put` is safe and ends.
 use mathlib.Core.Path.{refl, ◌∙◌}
 use native.Mathlib.Omega.{arith}
 use Rattle.walk_vectors.proofs.put.Goals as goal

@@ -1,4 +1,4 @@
--- `walk_vectors::replay_all` is safe and ends: both buffers keep their 257 numbers, and the measure is the number of turns that are left.
+-- `walk_vectors::replay_all` is safe and ends.
 use mathlib.Core.Path.{refl}
 use Rattle.walk_vectors.proofs.replay_all.Goals as goal
 

@@ -1,4 +1,4 @@
--- `cards::fields::read_numbers` meets its contract: after i turns the first i slots hold their numbers.
+-- `cards::fields::read_numbers` meets its contract.
 use mathlib.Core.Path.{◌≡◌, refl, ap, ◌∙◌}
 use mathlib.Core.List.{List}
 use Prim.Native.Nat.{ℕ}

@@ -1,4 +1,4 @@
--- `words::floats_at` meets its contract: after i turns the first i slots hold their numbers.
+-- `words::floats_at` meets its contract.
 use mathlib.Core.Path.{◌≡◌, sym, ap, ◌∙◌}
 use Prim.Native.Nat.{ℕ, ◌+◌, ◌*◌}
 use native.Mathlib.Omega.{arith}

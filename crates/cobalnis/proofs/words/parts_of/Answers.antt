@@ -1,4 +1,4 @@
--- `words::parts_of` meets its contract: after i turns the first i slots hold their parts.
+-- `words::parts_of` meets its contract.
 use mathlib.Core.Path.{◌≡◌, sym, ◌∙◌}
 use Prim.Native.Nat.{◌+◌, ◌*◌}
 use native.Mathlib.Omega.{arith}

@@ -1,4 +1,4 @@
--- `inserted` meets its contract: the slots up to i hold the new parts.
+-- `inserted` meets its contract.
 use mathlib.Core.Path.{◌≡◌, sym, ap, ◌∙◌}
 use Prim.Native.Nat.{◌+◌}
 use native.Mathlib.Omega.{arith}

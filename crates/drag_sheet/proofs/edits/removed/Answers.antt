@@ -1,4 +1,4 @@
--- `removed` meets its contract: the slots before i - 1 hold the new parts.
+-- `removed` meets its contract.
 use mathlib.Core.Path.{◌≡◌, sym, ap, ◌∙◌}
 use Prim.Native.Nat.{◌+◌, ◌-◌}
 use native.Mathlib.Omega.{arith}

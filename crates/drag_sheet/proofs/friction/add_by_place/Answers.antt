@@ -1,4 +1,4 @@
--- `add_by_place` meets its contract: the frictions of the parts before the place are added.
+-- `add_by_place` meets its contract.
 use mathlib.Core.Path.{◌≡◌, sym, ap, ◌∙◌}
 use Prim.Native.Nat.{ℕ}
 use native.Mathlib.Omega.{arith}

@@ -1,4 +1,4 @@
--- `add_common` meets its contract: the frictions of the parts before the place are added, by four and then one by one.
+-- `add_common` meets its contract.
 use mathlib.Core.Path.{◌≡◌, refl, sym, ap, ◌∙◌}
 use Prim.Native.Nat.{ℕ, ◌+◌}
 use native.Mathlib.Omega.{arith}

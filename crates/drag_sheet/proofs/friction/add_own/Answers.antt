@@ -1,4 +1,4 @@
--- `add_own` meets its contract: the cells before i are added, the others are as they were.
+-- `add_own` meets its contract.
 use native.Mathlib.Omega.{arith}
 use lib.Ieee.{nan}
 use Rattle.sheet_data.specs.Tables.{fill_none, fill_more, fill_end}

@@ -1,4 +1,4 @@
--- `any_own` meets its contract: whether any part before the place has one.
+-- `any_own` meets its contract.
 use mathlib.Core.Path.{◌≡◌, refl, ap, ◌∙◌}
 use Prim.Native.Nat.{ℕ}
 use native.Mathlib.Omega.{arith}

@@ -1,4 +1,4 @@
--- `fill_once` meets its contract: the cells before i are filled.
+-- `fill_once` meets its contract.
 use native.Mathlib.Omega.{arith}
 use lib.Ieee.{nan}
 use Rattle.sheet_data.specs.Tables.{fill_none, fill_more, fill_end}

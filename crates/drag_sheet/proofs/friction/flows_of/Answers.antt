@@ -1,4 +1,4 @@
--- `flows_of` meets its contract: the flows of the columns before i are there.
+-- `flows_of` meets its contract.
 use native.Mathlib.Omega.{arith}
 use Rattle.sheet_data.specs.Tables.{fill_none, fill_more}
 use Rattle.drag_sheet.specs.Body.{no_flow}

@@ -1,4 +1,4 @@
--- `fill_row` meets its contract: the cells before i are made.
+-- `fill_row` meets its contract.
 use mathlib.Core.Path.{refl, sym, ap, ◌∙◌}
 use native.Mathlib.Omega.{arith}
 use lib.Ieee.{nan}

@@ -1,4 +1,4 @@
--- `add_parts` meets its contract: the sum of the rows before this one.
+-- `add_parts` meets its contract.
 use mathlib.Core.Path.{◌≡◌, sym, ap, ◌∙◌}
 use Prim.Native.Nat.{◌+◌, ◌≤◌}
 use native.Mathlib.Omega.{arith}

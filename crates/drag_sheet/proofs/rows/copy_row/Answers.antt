@@ -1,4 +1,4 @@
--- `copy_row` meets its contract: the cells before i are copied.
+-- `copy_row` meets its contract.
 use mathlib.Core.Path.{refl, sym, ◌∙◌}
 use native.Mathlib.Omega.{arith}
 use lib.Ieee.{nan}

@@ -1,4 +1,4 @@
--- `part_rows` meets its contract: the rows of the places before this one are written, and each of them could be.
+-- `part_rows` meets its contract.
 use mathlib.Core.Path.{◌≡◌, sym, ap, ◌∙◌}
 use Prim.Native.Nat.{ℕ, ◌+◌, ◌-◌, ◌≤◌}
 use native.Mathlib.Omega.{arith}

@@ -1,4 +1,4 @@
--- `write_column` meets its contract: the cells of the rows before this one are put.
+-- `write_column` meets its contract.
 use native.Mathlib.Omega.{arith}
 use Rattle.sheet_data.specs.RowLaws.{rows_none, rows_end}
 use Rattle.drag_sheet.proofs.Laying.{put_next}

@@ -1,4 +1,4 @@
--- `write_frictions` meets its contract: the friction rows of the finishes before this one are written.
+-- `write_frictions` meets its contract.
 use mathlib.Core.Path.{◌≡◌, ◌∙◌}
 use Prim.Native.Nat.{◌+◌, ◌<◌}
 use native.Mathlib.Omega.{arith}

@@ -1,4 +1,4 @@
--- `write_totals` meets its contract: the totals of the finishes before this one are written.
+-- `write_totals` meets its contract.
 use native.Mathlib.Omega.{arith}
 use Rattle.sheet_data.specs.RowLaws.{rows_none, rows_end}
 use Rattle.drag_sheet.specs.Writing.{totalled}

@@ -1,5 +1,4 @@
--- `elementary::whole_root::root_by_digits` meets its contract. The invariant: what has been read is n, of which `root` is the root so far, and n and `rest` together are
--- w × 2 ^ 10 × 4 ^ digit, so that after 53 digits n is w × 2 ^ 52.
+-- `elementary::whole_root::root_by_digits` meets its contract.
 use mathlib.Core.Path.{◌≡◌, subst}
 use Prim.Native.Nat.{ℕ, suc, ◌+◌, ◌*◌, ◌/◌, ◌%◌, ◌^◌, ◌≤◌, ◌<◌}
 use native.Mathlib.Nat.{lt_of_lt_of_le, pow-suc, mul_assoc}

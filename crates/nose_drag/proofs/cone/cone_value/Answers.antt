@@ -7,5 +7,4 @@ unfolding cone_method cone_transonic
 returns-then-mach c = simp (c.if-mach.true, c.cone_supersonic-cone.ensures)
 
 pub returns-else-mach : goal.returns-else-mach
-unfolding cone_method cone_transonic
 returns-else-mach c = simp c.cone_method-at.ensures

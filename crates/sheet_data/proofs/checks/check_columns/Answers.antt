@@ -1,4 +1,4 @@
--- `check_columns` meets its contract: the columns before i have passed.
+-- `check_columns` meets its contract.
 use mathlib.Core.Path.{sym, ◌∙◌}
 use native.Mathlib.Omega.{arith}
 use Rattle.aero_error.specs.CheckLaws.{up_none, up_more, up_failed, up_end}

@@ -1,4 +1,4 @@
--- `check_parts` meets its contract: the parts before the place have passed.
+-- `check_parts` meets its contract.
 use mathlib.Core.Path.{◌≡◌, sym, ap, ◌∙◌}
 use native.Mathlib.Omega.{arith}
 use lib.ListN.{length, take}

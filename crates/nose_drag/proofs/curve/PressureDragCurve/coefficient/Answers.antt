@@ -14,7 +14,6 @@ unfolding coefficient_of fitted
 returns-then-mach-self c = simp (← c.check_mach_any.ensures, c.in_default.is, c.if-mach-self.true, c.eval-rise.ensures)
 
 pub value-requires : goal.value-requires
-unfolding coefficient_of fitted
 value-requires c = omega (arith, deep_enough c.args.self.transonic)
 
 pub returns : goal.returns

@@ -5,11 +5,9 @@ use Rattle.nose_drag.specs.Curves.{cone_curve}
 use Rattle.nose_drag.proofs.curve.PressureDragCurve.cone.Goals as goal
 
 pub from_transonic-requires : goal.from_transonic-requires
-unfolding cone_curve
 from_transonic-requires c = deep_enough c.cone-method.result
 
 pub from_transonic-requires-else-fineness_ratio : goal.from_transonic-requires-else-fineness_ratio
-unfolding cone_curve
 from_transonic-requires-else-fineness_ratio c = lit≤ tt
 
 pub returns-then-fineness_ratio : goal.returns-then-fineness_ratio

@@ -5,7 +5,6 @@ use Rattle.nose_drag.specs.Curves.{interpolated}
 use Rattle.nose_drag.proofs.curve.PressureDragCurve.interpolated.Goals as goal
 
 pub from_transonic-requires : goal.from_transonic-requires
-unfolding interpolated
 from_transonic-requires c = deep_enough (Transonic.Scaled c.args.lower c.args.upper c.args.weight c.fineness_exponent.result)
 
 pub returns : goal.returns

@@ -4,7 +4,6 @@ use Rattle.nose_drag.specs.Curves.{step_curve}
 use Rattle.nose_drag.proofs.curve.PressureDragCurve.step.Goals as goal
 
 pub from_transonic-requires : goal.from_transonic-requires
-unfolding step_curve
 from_transonic-requires c = lit≤ tt
 
 pub returns : goal.returns

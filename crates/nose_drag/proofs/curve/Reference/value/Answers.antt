@@ -29,19 +29,15 @@ returns-else-mach c =
     simp (c.in-Cone.is, c.cone_value.ensures, c.sin_half_angle.ensures, whole_cone_above c.in-Cone.fineness_ratio c.in-Cone.factor c.in-Cone.rest a.mach c.if-mach.false)
 
 pub overflow_sub-depth : goal.overflow_sub-depth
-unfolding blunt
 overflow_sub-depth c = omega (arith, two (goal.at.overflow_sub-depth c).Then-mach)
 
 pub from_transonic-curve-requires : goal.from_transonic-curve-requires
-unfolding blunt
 from_transonic-curve-requires c = rw c.cone-cone.ensures (omega (arith, two (goal.at.from_transonic-curve-requires c).Then-mach))
 
 pub overflow_sub-depth-then-mach : goal.overflow_sub-depth-then-mach
-unfolding blunt
 overflow_sub-depth-then-mach c = omega (arith, two (goal.at.overflow_sub-depth-then-mach c).Then-mach)
 
 pub value_and_slope-at-requires : goal.value_and_slope-at-requires
-unfolding blunt
 value_and_slope-at-requires c = (let made = c.from_transonic-curve in
     let cone = c.cone-cone in
     rw (kept_method c.in-Cone.rest 1·0 made.result cone.result made.ensures ∙ cone.ensures) (omega (arith, two (goal.at.value_and_slope-at-requires c).Then-mach)))
@@ -51,5 +47,4 @@ unfolding blunt
 returns-in-Blunt c = simp (c.in-Blunt.is, c.stagnation_ratio.ensures)
 
 pub returns-in-Stoney : goal.returns-in-Stoney
-unfolding blunt
 returns-in-Stoney c = simp (c.in-Stoney.is, c.value_and_slope-at-in-Stoney.ensures)

@@ -13,19 +13,15 @@ one_more : (c : In-Scaled) → suc (max (depth_of_reference c.in-Scaled.lower) (
 one_more c = enough_for_method c.args.self _ c.args.depth c.in-Scaled.is c.requires
 
 pub overflow_sub-depth : goal.overflow_sub-depth
-unfolding blunt
 overflow_sub-depth c = omega (arith, one_more (goal.at.overflow_sub-depth c).In-Scaled)
 
 pub value-lo-requires : goal.value-lo-requires
-unfolding blunt
 value-lo-requires c = omega (arith, one_more (goal.at.value-lo-requires c).In-Scaled)
 
 pub overflow_sub-depth-in-Scaled : goal.overflow_sub-depth-in-Scaled
-unfolding blunt
 overflow_sub-depth-in-Scaled c = omega (arith, one_more (goal.at.overflow_sub-depth-in-Scaled c).In-Scaled)
 
 pub value-hi-requires : goal.value-hi-requires
-unfolding blunt
 value-hi-requires c = omega (arith, one_more (goal.at.value-hi-requires c).In-Scaled)
 
 pub returns-in-Blunt : goal.returns-in-Blunt
@@ -33,13 +29,10 @@ unfolding blunt
 returns-in-Blunt c = simp (c.in-Blunt.is, c.stagnation_ratio.ensures)
 
 pub returns-in-Cone : goal.returns-in-Cone
-unfolding blunt
 returns-in-Cone c = simp c.in-Cone.is c.cone_value.ensures
 
 pub returns-in-Scaled : goal.returns-in-Scaled
-unfolding blunt
 returns-in-Scaled c = simp (c.in-Scaled.is, c.scaled_value.ensures, c.value-lo.ensures, c.value-hi.ensures, value_of_scaled)
 
 pub returns-in-Ellipsoid : goal.returns-in-Ellipsoid
-unfolding blunt
 returns-in-Ellipsoid c = simp (c.in-Ellipsoid.is, c.ellipsoid-at.ensures)
