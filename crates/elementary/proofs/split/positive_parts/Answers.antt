@@ -20,4 +20,4 @@ pub returns-then-negative-2 : goal.returns-then-negative-2
 returns-then-negative-2 c = (simp (← c.split-parts.ensures, c.in-Finite.is, c.if-negative-2.true, c.nan-then-negative-2.ensures), tt)
 
 pub returns-else-negative-2 : goal.returns-else-negative-2
-returns-else-negative-2 c = ((simp (← c.split-parts.ensures, c.in-Finite.is, c.if-negative-2.false), taken c.args.x (true_t c.well_formed.0.1) (sym c.split-parts.ensures ∙ c.in-Finite.is)))
+returns-else-negative-2 c = (simp (← c.split-parts.ensures, c.in-Finite.is, c.if-negative-2.false), taken c.args.x (true_t c.well_formed.0.1) (sym c.split-parts.ensures ∙ c.in-Finite.is))

@@ -38,9 +38,10 @@ pub overflow_sub-depth-then-mach : goal.overflow_sub-depth-then-mach
 overflow_sub-depth-then-mach c = omega (arith, two (goal.at.overflow_sub-depth-then-mach c).Then-mach)
 
 pub value_and_slope-at-requires : goal.value_and_slope-at-requires
-value_and_slope-at-requires c = (let made = c.from_transonic-curve in
+value_and_slope-at-requires c =
+    let made = c.from_transonic-curve in
     let cone = c.cone-cone in
-    rw (kept_method c.in-Cone.rest 1·0 made.result cone.result made.ensures ∙ cone.ensures) (omega (arith, two (goal.at.value_and_slope-at-requires c).Then-mach)))
+    rw (kept_method c.in-Cone.rest 1·0 made.result cone.result made.ensures ∙ cone.ensures) (omega (arith, two (goal.at.value_and_slope-at-requires c).Then-mach))
 
 pub returns-in-Blunt : goal.returns-in-Blunt
 unfolding blunt
