@@ -1,22 +1,26 @@
 -- A range test, then refusal 1 with a code and the value (error.rs), tests one after another, and how a formula goes on after a test or after
 -- another formula: Rust's `?`.
-use Rattle.std.specs.Prelude.{Bool, true, false, ◌&&◌, ◌||◌, ℕ, zero, suc, Float}
+use Rattle.std.specs.Prelude.{Bool, true, false, ◌&&◌, ◌||◌, ℕ, zero, suc, Float, Result, Ok, Err}
 use Rattle.std.specs.Float.Ieee.Scale.{finite}
 use Rattle.elementary.specs.Arithmetic.{◌≺◌, ◌≈◌, bits}
 use Rattle.aero_error.specs.declared.Quantity.{Quantity}
 use Rattle.aero_error.specs.declared.AeroError.{AeroError}
 use Rattle.aero_error.specs.declared.AeroError.TheVariants.{Domain, Broken}
 use Rattle.aero_error.specs.declared.Rule.{Rule}
-use Rattle.aero_error.specs.declared.Check.{Check}
-use Rattle.aero_error.specs.declared.Check.TheVariants.{Passed, Failed}
-use Rattle.aero_error.specs.declared.Coefficient.{Coefficient}
-use Rattle.aero_error.specs.declared.Coefficient.TheVariants.{Value, Refused}
 
 infixr 20 ◌then◌ ◌and_then◌ ◌for_value◌
+-- the answer of a test, and of a call on a sheet
+abbrev pub Check : Type 0
+Check = Result (Unit {0}) AeroError
+
+-- the answer of a formula
+abbrev pub Coefficient : Type 0
+Coefficient = Result Float AeroError
+
 -- the one form of a range test: it passes, or it is refusal 1 with what was tested
 abbrev pub required : Bool → Quantity → Float → Check
-required true what value = Passed
-required false what value = Failed (Domain what value)
+required true what value = Ok tt
+required false what value = Err (Domain what value)
 
 -- "Zero of either sign passes where zero is allowed": `≈` does not tell -0 from +0.
 unfoldable pub dimension : Float → Bool → Bool
@@ -24,32 +28,25 @@ dimension value allow-zero = finite value && (bits 0 ≺ value || (allow-zero &&
 
 -- one test after another: the first that fails is the answer
 abbrev pub ◌then◌ : Check → Check → Check
-Passed then next = next
-Failed refusal then next = Failed refusal
+Ok tt then next = next
+Err refusal then next = Err refusal
 
 -- a rule's refusal where it is broken
 abbrev pub unless : Bool → Rule → Check
-unless true rule = Failed (Broken rule)
-unless false rule = Passed
+unless true rule = Err (Broken rule)
+unless false rule = Ok tt
 
 -- tests 0, 1, .. one after another, n of them
 unfoldable pub up_to : ℕ → (ℕ → Check) → Check
-up_to zero test = Passed
+up_to zero test = Ok tt
 up_to (suc n) test = up_to n test then test n
 
--- Rust's `?` for an answer of any type that has a case for refusals: `check?; answer`
-abbrev pub after : {A : Type 0} → (AeroError → A) → Check → A → A
-after refused Passed answer = answer
-after refused (Failed refusal) answer = refused refusal
+-- `check?; answer`
+abbrev pub ◌and_then◌ : {A : Type 0} → Check → Result A AeroError → Result A AeroError
+Ok tt and_then answer = answer
+Err refusal and_then answer = Err refusal
 
 -- `let value = first?; rest(value)`
-abbrev pub with_value : {A : Type 0} → (AeroError → A) → Coefficient → (Float → A) → A
-with_value refused (Value value) rest = rest value
-with_value refused (Refused refusal) rest = refused refusal
-
--- both, where the answer is a coefficient
-abbrev pub ◌and_then◌ : Check → Coefficient → Coefficient
-check and_then answer = after Refused check answer
-
-abbrev pub ◌for_value◌ : Coefficient → (Float → Coefficient) → Coefficient
-first for_value rest = with_value Refused first rest
+abbrev pub ◌for_value◌ : {A B : Type 0} → Result A AeroError → (A → Result B AeroError) → Result B AeroError
+Ok value for_value rest = rest value
+Err refusal for_value rest = Err refusal

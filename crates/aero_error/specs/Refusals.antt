@@ -1,10 +1,11 @@
 -- Refusals (docs/REFERENCE.md, Refusals and Codes): the number of each refusal, and the code and the value that refusal 1 adds.
 -- Each case of the enums is named here once; later promises speak of a refusal through these definitions.
-use Rattle.std.specs.Prelude.{ℕ, ◌<◌, Float}
+use Rattle.std.specs.Prelude.{◌≡◌, ◌⊎◌, ℕ, ◌<◌, Float, Result, MatchResult}
 use Rattle.std.proofs.Common.{arith}
 use Rattle.elementary.specs.Arithmetic.{bits}
 use Rattle.aero_error.specs.declared.Quantity.{Quantity}
 use Rattle.aero_error.specs.declared.Quantity.TheVariants.{Mach, Fineness, JointAngle, PowerExponent, ParabolicParameter, HaackParameter, EllipsoidFineness, EllipsoidMach, OgiveKappa, FinenessThreeDrag, BluntDrag, TransonicLowerBound, DragAtRest, DragAtLowerBound, SlopeAtLowerBound, MachBelowLowerBound, Reynolds, Roughness, BodyFineness, BoattailLength, BoattailAft, BoattailFore}
+use Rattle.aero_error.specs.declared.NoSuchQuantity.{NoSuchQuantity}
 use Rattle.aero_error.specs.declared.AeroError.{AeroError}
 use Rattle.aero_error.specs.declared.AeroError.TheVariants.{Domain, Broken}
 use Rattle.aero_error.specs.declared.Rule.{Rule}
@@ -34,6 +35,10 @@ code_of_quantity BodyFineness = 19
 code_of_quantity BoattailLength = 20
 code_of_quantity BoattailAft = 21
 code_of_quantity BoattailFore = 22
+
+-- the quantity of a code, or the code where it has none
+abbrev pub Coded : ℕ → Result Quantity NoSuchQuantity → Type 0
+Coded code r = MatchResult r (λ what. code_of_quantity what ≡ code) (λ e. (e.0 ≡ code) × ((code ≡ 0) ⊎ (22 < code)))
 
 -- the table's column N from 2 on
 abbrev pub number_of_rule : Rule → ℕ

@@ -1,5 +1,7 @@
 -- What an answer says in the words of docs/REFERENCE.md, Refusals: nothing where it is accepted, else the refusal's number, and the code and the value that 1
 -- adds. `told_apart` shows that no two outcomes say the same.
+use Rattle.std.specs.Prelude.{Ok, Err}
+use Rattle.aero_error.specs.Checks.{Check, Coefficient}
 use Rattle.std.specs.Prelude.{◌≡◌, refl, cond, List, [], ◌∷◌, map, ℕ, ◌-◌, eqb, get_or, Float}
 use Rattle.std.proofs.Common.{sym, ap, ◌∙◌}
 use Rattle.std.proofs.Math.Option.{Option, none, some}
@@ -9,10 +11,6 @@ use Rattle.aero_error.specs.declared.AeroError.{AeroError}
 use Rattle.aero_error.specs.declared.AeroError.TheVariants.{Domain, Broken}
 use Rattle.aero_error.specs.declared.Rule.{Rule}
 use Rattle.aero_error.specs.declared.Rule.TheVariants.{OgiveRadiusRatio, HaackAboveThird, CardEnds, ReservedBit, FieldMissing, TooManyColumns, NoSuchPlace, DesignFull, TooFewCells, OutsideInterval, FallingMach}
-use Rattle.aero_error.specs.declared.Check.{Check}
-use Rattle.aero_error.specs.declared.Check.TheVariants.{Passed, Failed}
-use Rattle.aero_error.specs.declared.Coefficient.{Coefficient}
-use Rattle.aero_error.specs.declared.Coefficient.TheVariants.{Value, Refused}
 use Rattle.aero_error.specs.Refusals.{number_of, number_of_rule, code_of, refused_value, code_of_quantity}
 
 pub record Told : Type 0 where
@@ -25,13 +23,13 @@ told_of e = record { number = number_of e; code = code_of e; value = refused_val
 
 -- a call's or a test's outcome
 abbrev pub told : Check → Option Told
-told Passed = none
-told (Failed e) = some (told_of e)
+told (Ok tt) = none
+told (Err e) = some (told_of e)
 
 -- a formula's answer
 abbrev pub told_of_coefficient : Coefficient → Option Told
-told_of_coefficient (Value v) = none
-told_of_coefficient (Refused e) = some (told_of e)
+told_of_coefficient (Ok v) = none
+told_of_coefficient (Err e) = some (told_of e)
 
 -- ---- no two outcomes say the same: from what was told the outcome comes back
 
@@ -100,12 +98,12 @@ error_back (Domain what value) = ap (λ (q : Quantity). Domain q value) (quantit
 error_back (Broken rule) = rule_back rule
 
 abbrev check_of : Option Told → Check
-check_of none = Passed
-check_of (some t) = Failed (error_of t)
+check_of none = Ok tt
+check_of (some t) = Err (error_of t)
 
 check_back : (c : Check) → check_of (told c) ≡ c
-check_back Passed = refl
-check_back (Failed e) = ap Failed (error_back e)
+check_back (Ok tt) = refl
+check_back (Err e) = ap Err (error_back e)
 
 pub told_apart : (a b : Check) → told a ≡ told b → a ≡ b
 told_apart a b e = sym (check_back a) ∙ ap check_of e ∙ check_back b

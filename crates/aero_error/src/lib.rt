@@ -1,75 +1,59 @@
-// The refusals of every layer, with their numbers (docs/REFERENCE.md, Refusals), the tests that give refusal 1 (error.rs), and tests
-// one after another. A test answers `Check`, a formula `Coefficient`; both carry the refusal itself, so that a caller hands it on
-// unread.
+// The refusals of every layer, with their numbers (docs/REFERENCE.md, Refusals), and the tests that give refusal 1 (error.rs). A test
+// answers `Result<(), AeroError>` and a formula `Result<f64, AeroError>`, so that a caller hands a refusal on by `?`.
 #![tactic(auto)]
 
 ghost use Rattle.std.specs.Prelude.{◌≡◌};
-ghost use Rattle.aero_error.specs.Refusals.{code_of_quantity, number_of_rule, number_of, code_of, refused_value};
-ghost use Rattle.aero_error.specs.Checks.{required, dimension, ◌then◌, unless, ◌and_then◌};
-ghost use Rattle.aero_error.specs.declared.Coefficient.TheVariants.{Value};
+ghost use Rattle.aero_error.specs.Refusals.{code_of_quantity, Coded, number_of_rule, number_of, code_of, refused_value};
+ghost use Rattle.aero_error.specs.Checks.{required, dimension, unless};
 
 // What a refused value is: the Rust's `what`, in the order of its codes 1 to 22 (docs/REFERENCE.md, Codes).
-#[derive(Clone, Copy)]
+#[derive(Clone, Copy, Debug, PartialEq, Eq)]
 pub enum Quantity {
-    Mach,
-    Fineness,
-    JointAngle,
-    PowerExponent,
-    ParabolicParameter,
-    HaackParameter,
-    EllipsoidFineness,
-    EllipsoidMach,
-    OgiveKappa,
-    FinenessThreeDrag,
-    BluntDrag,
-    TransonicLowerBound,
-    DragAtRest,
-    DragAtLowerBound,
-    SlopeAtLowerBound,
-    MachBelowLowerBound,
-    Reynolds,
-    Roughness,
-    BodyFineness,
-    BoattailLength,
-    BoattailAft,
-    BoattailFore,
+    Mach = 1,
+    Fineness = 2,
+    JointAngle = 3,
+    PowerExponent = 4,
+    ParabolicParameter = 5,
+    HaackParameter = 6,
+    EllipsoidFineness = 7,
+    EllipsoidMach = 8,
+    OgiveKappa = 9,
+    FinenessThreeDrag = 10,
+    BluntDrag = 11,
+    TransonicLowerBound = 12,
+    DragAtRest = 13,
+    DragAtLowerBound = 14,
+    SlopeAtLowerBound = 15,
+    MachBelowLowerBound = 16,
+    Reynolds = 17,
+    Roughness = 18,
+    BodyFineness = 19,
+    BoattailLength = 20,
+    BoattailAft = 21,
+    BoattailFore = 22,
 }
 
 // A rule that a refusal other than 1 names, in the order of the numbers.
-#[derive(Clone, Copy)]
+#[derive(Clone, Copy, Debug, PartialEq, Eq)]
 pub enum Rule {
-    OgiveRadiusRatio,
-    HaackAboveThird,
-    CardEnds,
-    ReservedBit,
-    FieldMissing,
-    TooManyColumns,
-    NoSuchPlace,
-    DesignFull,
-    TooFewCells,
-    OutsideInterval,
-    FallingMach,
+    OgiveRadiusRatio = 2,
+    HaackAboveThird = 3,
+    CardEnds = 4,
+    ReservedBit = 5,
+    FieldMissing = 6,
+    TooManyColumns = 7,
+    NoSuchPlace = 8,
+    DesignFull = 9,
+    TooFewCells = 10,
+    OutsideInterval = 11,
+    FallingMach = 16,
 }
 
 // A refusal: a value outside its domain, which is refusal 1, or a broken rule.
-#[derive(Clone, Copy)]
+#[derive(Clone, Copy, Debug, PartialEq)]
 pub enum AeroError {
     Domain { what: Quantity, value: f64 },
     Broken(Rule),
-}
-
-// The answer of a test, and of a call on a sheet: it passed, or its refusal.
-#[derive(Clone, Copy)]
-pub enum Check {
-    Passed,
-    Failed(AeroError),
-}
-
-// The answer of a formula.
-#[derive(Clone, Copy)]
-pub enum Coefficient {
-    Value(f64),
-    Refused(AeroError),
 }
 
 impl Quantity {
@@ -77,29 +61,44 @@ impl Quantity {
     pub fn code(self) -> u8
         ensures { result ≡ code_of_quantity self }
     {
-        match self {
-            Quantity::Mach => 1,
-            Quantity::Fineness => 2,
-            Quantity::JointAngle => 3,
-            Quantity::PowerExponent => 4,
-            Quantity::ParabolicParameter => 5,
-            Quantity::HaackParameter => 6,
-            Quantity::EllipsoidFineness => 7,
-            Quantity::EllipsoidMach => 8,
-            Quantity::OgiveKappa => 9,
-            Quantity::FinenessThreeDrag => 10,
-            Quantity::BluntDrag => 11,
-            Quantity::TransonicLowerBound => 12,
-            Quantity::DragAtRest => 13,
-            Quantity::DragAtLowerBound => 14,
-            Quantity::SlopeAtLowerBound => 15,
-            Quantity::MachBelowLowerBound => 16,
-            Quantity::Reynolds => 17,
-            Quantity::Roughness => 18,
-            Quantity::BodyFineness => 19,
-            Quantity::BoattailLength => 20,
-            Quantity::BoattailAft => 21,
-            Quantity::BoattailFore => 22,
+        self as u8
+    }
+}
+
+// A code that names no quantity.
+#[derive(Clone, Copy, Debug, PartialEq, Eq)]
+pub struct NoSuchQuantity(pub u32);
+
+impl TryFrom<u32> for Quantity {
+    type Error = NoSuchQuantity;
+
+    ghost try_from_gives = { Coded };
+
+    fn try_from(code: u32) -> Result<Quantity, NoSuchQuantity> {
+        match code {
+            1 => Ok(Quantity::Mach),
+            2 => Ok(Quantity::Fineness),
+            3 => Ok(Quantity::JointAngle),
+            4 => Ok(Quantity::PowerExponent),
+            5 => Ok(Quantity::ParabolicParameter),
+            6 => Ok(Quantity::HaackParameter),
+            7 => Ok(Quantity::EllipsoidFineness),
+            8 => Ok(Quantity::EllipsoidMach),
+            9 => Ok(Quantity::OgiveKappa),
+            10 => Ok(Quantity::FinenessThreeDrag),
+            11 => Ok(Quantity::BluntDrag),
+            12 => Ok(Quantity::TransonicLowerBound),
+            13 => Ok(Quantity::DragAtRest),
+            14 => Ok(Quantity::DragAtLowerBound),
+            15 => Ok(Quantity::SlopeAtLowerBound),
+            16 => Ok(Quantity::MachBelowLowerBound),
+            17 => Ok(Quantity::Reynolds),
+            18 => Ok(Quantity::Roughness),
+            19 => Ok(Quantity::BodyFineness),
+            20 => Ok(Quantity::BoattailLength),
+            21 => Ok(Quantity::BoattailAft),
+            22 => Ok(Quantity::BoattailFore),
+            _ => Err(NoSuchQuantity(code)),
         }
     }
 }
@@ -109,19 +108,7 @@ impl Rule {
     pub fn number(self) -> u8
         ensures { result ≡ number_of_rule self }
     {
-        match self {
-            Rule::OgiveRadiusRatio => 2,
-            Rule::HaackAboveThird => 3,
-            Rule::CardEnds => 4,
-            Rule::ReservedBit => 5,
-            Rule::FieldMissing => 6,
-            Rule::TooManyColumns => 7,
-            Rule::NoSuchPlace => 8,
-            Rule::DesignFull => 9,
-            Rule::TooFewCells => 10,
-            Rule::OutsideInterval => 11,
-            Rule::FallingMach => 16,
-        }
+        self as u8
     }
 }
 
@@ -158,56 +145,36 @@ impl AeroError {
 }
 
 // A test, then refusal 1 with this quantity and value.
-pub fn require(ok: bool, what: Quantity, value: f64) -> Check
+pub fn require(ok: bool, what: Quantity, value: f64) -> Result<(), AeroError>
     ensures { result ≡ required ok what value }
 {
     if ok {
-        Check::Passed
+        Ok(())
     } else {
-        Check::Failed(AeroError::Domain { what, value })
-    }
-}
-
-// One test after another: the first that fails is the answer.
-pub fn then(first: Check, next: Check) -> Check
-    ensures { result ≡ (first then next) }
-{
-    match first {
-        Check::Passed => next,
-        Check::Failed(refusal) => Check::Failed(refusal),
+        Err(AeroError::Domain { what, value })
     }
 }
 
 // The rule's refusal where it is broken.
-pub fn unless(broken: bool, rule: Rule) -> Check
+pub fn unless(broken: bool, rule: Rule) -> Result<(), AeroError>
     ensures { result ≡ unless broken rule }
 {
     if broken {
-        Check::Failed(AeroError::Broken(rule))
+        Err(AeroError::Broken(rule))
     } else {
-        Check::Passed
-    }
-}
-
-// A value once its tests have passed, or their refusal. The value is worked out before the answer of the tests is looked at, so what
-// takes long stays behind an `if`.
-pub fn gated(check: Check, value: f64) -> Coefficient
-    ensures { result ≡ (check and_then Value value) }
-{
-    match check {
-        Check::Passed => Coefficient::Value(value),
-        Check::Failed(refusal) => Coefficient::Refused(refusal),
+        Ok(())
     }
 }
 
 // Finite and positive, or zero of either sign where zero is allowed.
+#[tactic(auto, unfolding(crate::specs::Checks::dimension))]
 fn is_dimension(value: f64, allow_zero: bool) -> bool
     ensures { result ≡ dimension value allow_zero }
 {
     elementary::is_finite(value) && (value > 0.0 || (allow_zero && value == 0.0))
 }
 
-pub fn check_dimension(what: Quantity, value: f64, allow_zero: bool) -> Check
+pub fn check_dimension(what: Quantity, value: f64, allow_zero: bool) -> Result<(), AeroError>
     ensures { result ≡ required (dimension value allow_zero) what value }
 {
     require(is_dimension(value, allow_zero), what, value)

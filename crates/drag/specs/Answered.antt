@@ -1,5 +1,5 @@
 -- Where the tests of a sheet pass, the formulas of friction (proofs/Answered.antt), base and boattail give a number: an accepted sheet leaves them nothing to refuse.
-use Rattle.std.specs.Prelude.{◌≡◌, refl, Bool, true, false, ◌&&◌, ◌||◌, ℕ, ◌*◌, T, eqb, pos, Float}
+use Rattle.std.specs.Prelude.{◌≡◌, refl, Bool, true, false, ◌&&◌, ◌||◌, ℕ, ◌*◌, T, eqb, pos, Float, Ok}
 use Rattle.std.proofs.Common.{sym, ap, subst, eqb→eq}
 use Rattle.std.specs.Bool.{beq}
 use Rattle.std.proofs.lemmas.Bool.{false≢true}
@@ -12,10 +12,7 @@ use Rattle.elementary.specs.Steps.{POW}
 use Rattle.elementary.specs.Tests.{between}
 use Rattle.elementary.specs.Constants.{0·0, 0·5, 1·0}
 use Rattle.aero_error.specs.declared.Quantity.TheVariants.{Mach, BodyFineness}
-use Rattle.aero_error.specs.declared.Check.{Check}
-use Rattle.aero_error.specs.declared.Check.TheVariants.{Passed}
-use Rattle.aero_error.specs.declared.Coefficient.TheVariants.{Value}
-use Rattle.aero_error.specs.Checks.{required, dimension, ◌and_then◌}
+use Rattle.aero_error.specs.Checks.{Check, required, dimension, ◌and_then◌}
 use Rattle.aero_error.specs.CheckLaws.{required_passed}
 use Rattle.drag.specs.Constants.{51·0, 1·039, low_reynolds}
 use Rattle.drag.specs.Friction.{mach_checked, body_friction_form_factor}
@@ -75,7 +72,7 @@ pub record MachPassed (M : Float) : Type 0 where
   pub is_finite : T (finite M)
   pub not_negative : T (0·0 ≼ M)
 
-pub mach_passed : (M : Float) → mach_checked M ≡ Passed → MachPassed M
+pub mach_passed : (M : Float) → mach_checked M ≡ Ok tt → MachPassed M
 unfolding mach_checked
 mach_passed M h =
     let t : T (finite M && 0·0 ≼ M) = subst T (sym (required_passed (finite M && 0·0 ≼ M) Mach M h)) tt in
@@ -87,18 +84,18 @@ mach_passed M h =
 abbrev pub limits : Float → Float → Bool
 limits k R = low_reynolds ≼ R && 51·0 ⊗ POW k (neg 1·039) ≼ R
 
-pub form_answered : (B : Float) → dimension B false ≡ true → body_friction_form_factor B ≡ Value (1·0 ⊕ 0·5 ⊘ B)
+pub form_answered : (B : Float) → dimension B false ≡ true → body_friction_form_factor B ≡ Ok (1·0 ⊕ 0·5 ⊘ B)
 unfolding body_friction_form_factor
-form_answered B h = ap (λ (ok : Bool). required ok BodyFineness B and_then Value (1·0 ⊕ 0·5 ⊘ B)) h
+form_answered B h = ap (λ (ok : Bool). required ok BodyFineness B and_then Ok (1·0 ⊕ 0·5 ⊘ B)) h
 
 -- ---- base and boattail
 
-pub base_answered : (M : Float) → mach_checked M ≡ Passed → base_drag_coefficient M ≡ Value (base_drag M)
+pub base_answered : (M : Float) → mach_checked M ≡ Ok tt → base_drag_coefficient M ≡ Ok (base_drag M)
 unfolding base_drag_coefficient
-base_answered M h = ap (λ (check : Check). check and_then Value (base_drag M)) h
+base_answered M h = ap (λ (check : Check). check and_then Ok (base_drag M)) h
 
 -- a length and two diameters from 0 to a bound, the second diameter the smaller one
 pub boattail_answered : (l f d high : Float) → finite high ≡ true → between 0·0 l high ≡ true → between 0·0 f high ≡ true → between 0·0 d high ≡ true → (d ≺ f) ≡ true
-    → boattail_factor l f d ≡ Value (boattail_share (l ⊘ (f ⊖ d)))
+    → boattail_factor l f d ≡ Ok (boattail_share (l ⊘ (f ⊖ d)))
 unfolding boattail_factor
 boattail_answered l f d high h a b c narrows = rw (in_interval_lem l high h a, in_interval_lem d high h c, bounded f high h b, narrows)

@@ -1,27 +1,24 @@
 -- The friction in two steps, as the code takes them (specs/Friction has what comes out): what a Mach and a Reynolds number decide is worked out once, for walls of
 -- every roughness. `in_flow` says that the friction is the same, where the turbulent one is asked for or the roughness limits.
-use Rattle.std.specs.Prelude.{◌≡◌, refl, ◌⊎◌, Bool, true, false, cond, Float}
+use Rattle.std.specs.Prelude.{◌≡◌, refl, ◌⊎◌, Bool, true, false, cond, Float, Result, Ok, Err}
 use Rattle.std.proofs.Common.{ap, inl, inr}
 use Rattle.std.proofs.lemmas.Bool.{false≢true}
 use Rattle.elementary.specs.Arithmetic.{◌⊕◌, ◌⊖◌, ◌⊗◌, ◌⊘◌, ◌≺◌, ◌≼◌}
 use Rattle.elementary.specs.Steps.{POW}
 use Rattle.elementary.specs.Tests.{max_of}
 use Rattle.elementary.specs.Constants.{0·0, 1·0}
-use Rattle.aero_error.specs.declared.Check.{Check}
-use Rattle.aero_error.specs.declared.Check.TheVariants.{Passed, Failed}
-use Rattle.aero_error.specs.declared.Coefficient.{Coefficient}
-use Rattle.aero_error.specs.declared.Coefficient.TheVariants.{Value, Refused}
-use Rattle.aero_error.specs.Checks.{◌and_then◌, ◌for_value◌}
+use Rattle.aero_error.specs.Checks.{Check, Coefficient, ◌and_then◌, ◌for_value◌}
 use Rattle.drag.specs.declared.Wall.{Wall}
 use Rattle.drag.specs.declared.Flow.{Flow}
-use Rattle.drag.specs.declared.Flow.TheVariants.{Subsonic, Supersonic, Refused as NoFlow}
+use Rattle.drag.specs.declared.Flow.TheVariants.{Subsonic, Supersonic}
+use Rattle.aero_error.specs.declared.AeroError.{AeroError}
 use Rattle.drag.specs.Constants.{0·1, 0·15, 0·18, 0·58, low_reynolds}
 use Rattle.drag.specs.Friction.{flow_checked, turbulent_friction, on_wall, incompressible, compressible, friction_on}
 
 -- the roughness of a wall limits the friction at R
 abbrev critical_below : Coefficient → Float → Bool
-critical_below (Value critical) R = critical ≼ R
-critical_below (Refused refusal) R = false
+critical_below (Ok critical) R = critical ≼ R
+critical_below (Err refusal) R = false
 
 unfoldable pub limits_at : Wall → Float → Bool
 limits_at wall R = cond (low_reynolds ≼ R) (critical_below wall.critical R) false
@@ -44,16 +41,11 @@ fast_turbulent R M = turbulent_friction R ⊘ POW (1·0 ⊕ 0·15 ⊗ (M ⊗ M))
 abbrev flowing : Bool → Bool → Float → Float → Flow
 flowing slow asked R M = cond slow (Subsonic R (turbulent_where asked R) (slow_factor M)) (Supersonic R (fast_turbulent R M) (fast_factor M))
 
-abbrev after_test : Check → Flow → Flow
-after_test Passed flow = flow
-after_test (Failed refusal) flow = NoFlow refusal
-
-unfoldable pub flow_of : Bool → Float → Float → Flow
-flow_of asked R M = after_test (flow_checked M R) (flowing (M ≺ 1·0) asked R M)
+unfoldable pub flow_of : Bool → Float → Float → Result Flow AeroError
+flow_of asked R M = flow_checked M R and_then Ok (flowing (M ≺ 1·0) asked R M)
 
 -- the friction on a wall in a flow
 unfoldable pub friction_in : Wall → Flow → Coefficient
-friction_in wall (NoFlow refusal) = Refused refusal
 friction_in wall (Subsonic R turbulent factor) = on_wall wall R λ limited x. cond limited (wall.limited ⊗ factor) (turbulent ⊗ factor)
 friction_in wall (Supersonic R turbulent factor) = on_wall wall R λ limited x. cond limited (max_of (wall.limited ⊘ factor) turbulent) turbulent
 
@@ -62,10 +54,10 @@ friction_in wall (Supersonic R turbulent factor) = on_wall wall R λ limited x. 
 -- of what is made on a wall only the case counts in which the roughness limits or doesn't
 module _ (R : Float) (f g : Bool → Float → Float) where
   by_test : (looked : Bool) (critical : Coefficient) (rough : Float) → f (cond looked (critical_below critical R) false) rough ≡ g (cond looked (critical_below critical R) false) rough
-      → cond looked (critical for_value λ at. Value (f (at ≼ R) rough)) (Value (f false rough)) ≡ cond looked (critical for_value λ at. Value (g (at ≼ R) rough)) (Value (g false rough))
-  by_test true (Value at) rough h = ap Value h
-  by_test true (Refused refusal) rough h = refl
-  by_test false critical rough h = ap Value h
+      → cond looked (critical for_value λ at. Ok (f (at ≼ R) rough)) (Ok (f false rough)) ≡ cond looked (critical for_value λ at. Ok (g (at ≼ R) rough)) (Ok (g false rough))
+  by_test true (Ok at) rough h = ap Ok h
+  by_test true (Err refusal) rough h = refl
+  by_test false critical rough h = ap Ok h
 
   same_on_wall : (wall : Wall) → f (limits_at wall R) wall.limited ≡ g (limits_at wall R) wall.limited → on_wall wall R f ≡ on_wall wall R g
   unfolding limits_at
@@ -79,15 +71,15 @@ below asked true R rough factor h = refl
 below asked false R rough factor (inl e) = rw e
 below asked false R rough factor (inr e) = absurd (false≢true e)
 
-pub in_flow : (wall : Wall) (asked : Bool) (R M : Float) → (asked ≡ true) ⊎ (limits_at wall R ≡ true) → friction_in wall (flow_of asked R M) ≡ friction_on wall R M
+pub in_flow : (wall : Wall) (asked : Bool) (R M : Float) → (asked ≡ true) ⊎ (limits_at wall R ≡ true) → (flow_of asked R M for_value friction_in wall) ≡ friction_on wall R M
 unfolding flow_of friction_in friction_on compressible
 in_flow wall asked R M h = both (flow_checked M R) (M ≺ 1·0)
   where
-    both : (check : Check) (slow : Bool) → friction_in wall (after_test check (flowing slow asked R M))
+    both : (check : Check) (slow : Bool) → ((check and_then Ok (flowing slow asked R M)) for_value friction_in wall)
         ≡ (check and_then on_wall wall R λ limited rough.
         cond slow (incompressible limited rough R ⊗ slow_factor M) (cond limited (max_of (rough ⊘ fast_factor M) (fast_turbulent R M)) (fast_turbulent R M)))
-    both (Failed refusal) slow = refl
-    both Passed true =
+    both (Err refusal) slow = refl
+    both (Ok tt) true =
         same_on_wall R (λ limited x. cond limited (wall.limited ⊗ slow_factor M) (turbulent_where asked R ⊗ slow_factor M)) (λ limited rough. incompressible limited rough R ⊗ slow_factor M) wall
         (below asked (limits_at wall R) R wall.limited (slow_factor M) h)
-    both Passed false = refl
+    both (Ok tt) false = refl

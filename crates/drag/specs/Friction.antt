@@ -1,17 +1,14 @@
 -- Skin friction (Niskanen 2009, eq. 3.78 to 3.85), as drag.rs computes it: one rounding an operation, in the order written.
 -- R is the Reynolds number, k the relative roughness R_s/L, M the Mach number.
-use Rattle.std.specs.Prelude.{◌≡◌, refl, Bool, true, false, cond, ◌&&◌, List, length, get_or, Float}
+use Rattle.std.specs.Prelude.{◌≡◌, refl, Bool, true, false, cond, ◌&&◌, List, length, get_or, Float, Ok}
 use Rattle.std.specs.Float.{nan}
 use Rattle.std.specs.Float.Ieee.{neg}
 use Rattle.std.specs.Float.Ieee.Scale.{finite}
 use Rattle.elementary.specs.Arithmetic.{◌⊕◌, ◌⊖◌, ◌⊗◌, ◌⊘◌, ◌≺◌, ◌≼◌}
 use Rattle.elementary.specs.Steps.{LN, POW}
 use Rattle.elementary.specs.Tests.{max_of}
-use Rattle.aero_error.specs.declared.Check.{Check}
-use Rattle.aero_error.specs.declared.Coefficient.{Coefficient}
-use Rattle.aero_error.specs.declared.Coefficient.TheVariants.{Value}
 use Rattle.aero_error.specs.declared.Quantity.TheVariants.{Mach, Reynolds, Roughness, BodyFineness}
-use Rattle.aero_error.specs.Checks.{required, dimension, ◌then◌, up_to, ◌and_then◌, ◌for_value◌}
+use Rattle.aero_error.specs.Checks.{Check, Coefficient, required, dimension, ◌then◌, up_to, ◌and_then◌, ◌for_value◌}
 use Rattle.drag.specs.declared.Wall.{Wall}
 use Rattle.elementary.specs.Constants.{0·0, 1·0, 0·5}
 use Rattle.drag.specs.Constants.{51·0, 0·032, 0·1, 0·15, 0·18, 0·2, 0·58, 1·5, 5·6, 1·039, low_reynolds, low_reynolds_friction}
@@ -40,7 +37,7 @@ turbulent_friction R =
 unfoldable pub critical_reynolds : Float → Coefficient
 critical_reynolds k =
     required (dimension k true) Roughness k and_then
-    Value (51·0 ⊗ POW k (neg 1·039))
+    Ok (51·0 ⊗ POW k (neg 1·039))
 
 -- eq. 3.80
 unfoldable pub limited_friction : Float → Float
@@ -54,8 +51,8 @@ wall_of k = record { critical = critical_reynolds k; limited = limited_friction 
 abbrev pub on_wall : Wall → Float → (Bool → Float → Float) → Coefficient
 on_wall wall R friction =
     cond (low_reynolds ≼ R)
-    (wall.critical for_value λ critical. Value (friction (critical ≼ R) wall.limited))
-    (Value (friction false wall.limited))
+    (wall.critical for_value λ critical. Ok (friction (critical ≼ R) wall.limited))
+    (Ok (friction false wall.limited))
 
 -- ---- the friction
 
@@ -94,4 +91,4 @@ on_wall_lem k R M = refl
 unfoldable pub body_friction_form_factor : Float → Coefficient
 body_friction_form_factor fB =
     required (dimension fB false) BodyFineness fB and_then
-    Value (1·0 ⊕ 0·5 ⊘ fB)
+    Ok (1·0 ⊕ 0·5 ⊘ fB)

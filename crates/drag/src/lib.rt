@@ -8,7 +8,7 @@ ghost use Rattle.drag.specs.Walls.{limited_from, wall_at};
 ghost use Rattle.drag.specs.Flows.{limits_at, turbulent_where, flow_of, friction_in};
 ghost use Rattle.drag.specs.Pressure.{stagnation_ratio, stagnation_pressure_ratio, stagnation_drag_coefficient, base_drag, base_drag_coefficient, joint_pressure_drag_coefficient, boattail_share, boattail_factor};
 
-use aero_error::{AeroError, Check, Coefficient, Quantity, check_dimension, gated, require, then};
+use aero_error::{AeroError, Quantity, check_dimension, require};
 use elementary::{is_between, is_finite, max};
 
 // Reynolds number below which the friction formulas no longer hold (Niskanen 2009 p. 44).
@@ -21,7 +21,8 @@ pub const LOW_REYNOLDS_FRICTION: f64 = 1.48e-2;
 pub const FRAC_PI_2: f64 = 1.57079632679489661923132169163975144;
 
 // A Mach number of any speed regime: finite and not negative.
-pub fn check_mach_any(mach: f64) -> Check
+#[tactic(auto, unfolding(crate::specs::Friction::mach_checked))]
+pub fn check_mach_any(mach: f64) -> Result<(), AeroError>
     ensures { result ≡ mach_checked mach }
 {
     let ok = is_finite(mach) && mach >= 0.0;
@@ -29,28 +30,22 @@ pub fn check_mach_any(mach: f64) -> Check
 }
 
 // The first bad Mach number's refusal.
-pub fn check_machs(machs: &[f64]) -> Check
+#[tactic(auto, unfolding(crate::specs::Friction::machs_test))]
+pub fn check_machs(machs: &[f64]) -> Result<(), AeroError>
     ensures { result ≡ machs_test machs.now }
 {
-    let mut i = 0usize;
-    while i < machs.len() {
-        let check = check_mach_any(machs[i]);
-        let Check::Passed = check else {
-            return check;
-        };
-        i += 1;
+    for mach in machs {
+        check_mach_any(*mach)?;
     }
-    Check::Passed
+    Ok(())
 }
 
 // Mach, then Reynolds number: the flow that a friction is asked for.
-pub fn check_flow(mach: f64, reynolds: f64) -> Check
+pub fn check_flow(mach: f64, reynolds: f64) -> Result<(), AeroError>
     ensures { result ≡ flow_checked mach reynolds }
 {
-    then(
-        check_mach_any(mach),
-        check_dimension(Quantity::Reynolds, reynolds, true),
-    )
+    check_mach_any(mach)?;
+    check_dimension(Quantity::Reynolds, reynolds, true)
 }
 
 // ---- skin friction
@@ -59,7 +54,7 @@ pub fn check_flow(mach: f64, reynolds: f64) -> Check
 // the friction that it limits (eq. 3.80). Worked out once, it serves every Reynolds and Mach number.
 #[derive(Clone, Copy)]
 pub struct Wall {
-    pub critical: Coefficient,
+    pub critical: Result<f64, AeroError>,
     pub limited: f64,
 }
 
@@ -77,10 +72,10 @@ pub enum Flow {
         turbulent: f64,
         factor: f64,
     },
-    Refused(AeroError),
 }
 
 // Smooth fully turbulent friction (eq. 3.78), held below LOW_REYNOLDS (eq. 3.81).
+#[tactic(auto, unfolding(crate::specs::Friction::turbulent_friction))]
 fn turbulent_friction(reynolds: f64) -> f64
     ensures { result ≡ turbulent_friction reynolds }
 {
@@ -93,16 +88,16 @@ fn turbulent_friction(reynolds: f64) -> f64
 }
 
 // The roughness-limited critical Reynolds number (eq. 3.79), +infinity for roughness 0.
-pub fn critical_reynolds(relative_roughness: f64) -> Coefficient
+#[tactic(auto, unfolding(crate::specs::Friction::critical_reynolds))]
+pub fn critical_reynolds(relative_roughness: f64) -> Result<f64, AeroError>
     ensures { result ≡ critical_reynolds relative_roughness }
 {
-    if let Check::Failed(refusal) = check_dimension(Quantity::Roughness, relative_roughness, true) {
-        return Coefficient::Refused(refusal);
-    }
-    Coefficient::Value(51.0 * elementary::powf(relative_roughness, -1.039))
+    check_dimension(Quantity::Roughness, relative_roughness, true)?;
+    Ok(51.0 * elementary::powf(relative_roughness, -1.039))
 }
 
 // The friction that a roughness limits (eq. 3.80).
+#[tactic(auto, unfolding(crate::specs::Friction::limited_friction))]
 fn limited_friction(relative_roughness: f64) -> f64
     ensures { result ≡ limited_friction relative_roughness }
 {
@@ -120,12 +115,12 @@ pub fn wall_of(relative_roughness: f64) -> Wall
 }
 
 // Eq. 3.80 where the roughness limits at this Reynolds number, and otherwise 0, which nobody reads.
-fn limited_from(critical: Coefficient, reynolds: f64, relative_roughness: f64) -> f64
+fn limited_from(critical: Result<f64, AeroError>, reynolds: f64, relative_roughness: f64) -> f64
     ensures { result ≡ limited_from critical reynolds relative_roughness }
 {
     match critical {
-        Coefficient::Refused(_) => 0.0,
-        Coefficient::Value(at) => {
+        Err(_) => 0.0,
+        Ok(at) => {
             if reynolds >= at {
                 limited_friction(relative_roughness)
             } else {
@@ -136,6 +131,7 @@ fn limited_from(critical: Coefficient, reynolds: f64, relative_roughness: f64) -
 }
 
 // The wall as far as a Reynolds number asks for it: below LOW_REYNOLDS the roughness isn't looked at.
+#[tactic(auto, unfolding(crate::specs::Walls::wall_at))]
 fn wall_at(reynolds: f64, relative_roughness: f64) -> Wall
     ensures { result ≡ wall_at reynolds relative_roughness }
 {
@@ -145,40 +141,39 @@ fn wall_at(reynolds: f64, relative_roughness: f64) -> Wall
         return Wall { critical, limited };
     }
     Wall {
-        critical: Coefficient::Value(0.0),
+        critical: Ok(0.0),
         limited: 0.0,
     }
 }
 
 // Incompressible skin friction of a fully turbulent boundary layer (eq. 3.81).
-pub fn incompressible_skin_friction(reynolds: f64, relative_roughness: f64) -> Coefficient
+#[tactic(auto, unfolding(crate::specs::Friction::incompressible, crate::specs::Friction::incompressible_skin_friction))]
+pub fn incompressible_skin_friction(
+    reynolds: f64,
+    relative_roughness: f64,
+) -> Result<f64, AeroError>
     ensures { result ≡ incompressible_skin_friction reynolds relative_roughness }
 {
-    if let Check::Failed(refusal) = check_dimension(Quantity::Reynolds, reynolds, true) {
-        return Coefficient::Refused(refusal);
-    }
+    check_dimension(Quantity::Reynolds, reynolds, true)?;
     if LOW_REYNOLDS <= reynolds {
-        let answer = critical_reynolds(relative_roughness);
-        let Coefficient::Value(critical) = answer else {
-            return answer;
-        };
+        let critical = critical_reynolds(relative_roughness)?;
         if reynolds >= critical {
-            return Coefficient::Value(limited_friction(relative_roughness));
+            return Ok(limited_friction(relative_roughness));
         }
-        return Coefficient::Value(turbulent_friction(reynolds));
+        return Ok(turbulent_friction(reynolds));
     }
-    Coefficient::Value(turbulent_friction(reynolds))
+    Ok(turbulent_friction(reynolds))
 }
 
 // Whether the roughness of a wall limits the friction at a Reynolds number.
+#[tactic(auto, unfolding(crate::specs::Flows::limits_at))]
 fn limits(wall: Wall, reynolds: f64) -> bool
     ensures { result ≡ limits_at wall reynolds }
 {
     if LOW_REYNOLDS <= reynolds {
-        let answer = wall.critical;
-        return match answer {
-            Coefficient::Value(critical) => reynolds >= critical,
-            Coefficient::Refused(_) => false,
+        return match wall.critical {
+            Ok(critical) => reynolds >= critical,
+            Err(_) => false,
         };
     }
     false
@@ -197,50 +192,46 @@ fn turbulent_where(asked: bool, reynolds: f64) -> f64
 
 // The flow at a Reynolds and a Mach number. Whether the turbulent friction is asked for below Mach 1 too is the caller's to say: where
 // the roughness limits it isn't read.
-pub fn flow_of(asked: bool, reynolds: f64, mach: f64) -> Flow
+#[tactic(auto, unfolding(crate::specs::Flows::flow_of))]
+pub fn flow_of(asked: bool, reynolds: f64, mach: f64) -> Result<Flow, AeroError>
     ensures { result ≡ flow_of asked reynolds mach }
 {
-    if let Check::Failed(refusal) = check_flow(mach, reynolds) {
-        return Flow::Refused(refusal);
-    }
+    check_flow(mach, reynolds)?;
     let m2 = mach * mach;
     if mach < 1.0 {
-        return Flow::Subsonic {
+        return Ok(Flow::Subsonic {
             reynolds,
             turbulent: turbulent_where(asked, reynolds),
             factor: 1.0 - 0.1 * m2,
-        };
+        });
     }
-    Flow::Supersonic {
+    Ok(Flow::Supersonic {
         reynolds,
         turbulent: turbulent_friction(reynolds) / elementary::powf(1.0 + 0.15 * m2, 0.58),
         factor: 1.0 + 0.18 * m2,
-    }
+    })
 }
 
 // One friction where the roughness of a wall limits, the other where it doesn't; a roughness refused is handed on.
-fn on_wall(wall: Wall, reynolds: f64, rough: f64, smooth: f64) -> Coefficient
+fn on_wall(wall: Wall, reynolds: f64, rough: f64, smooth: f64) -> Result<f64, AeroError>
     ensures { result ≡ on_wall wall reynolds (λ limited x. cond limited rough smooth) }
 {
     if LOW_REYNOLDS <= reynolds {
-        let answer = wall.critical;
-        let Coefficient::Value(critical) = answer else {
-            return answer;
-        };
+        let critical = wall.critical?;
         if reynolds >= critical {
-            return Coefficient::Value(rough);
+            return Ok(rough);
         }
-        return Coefficient::Value(smooth);
+        return Ok(smooth);
     }
-    Coefficient::Value(smooth)
+    Ok(smooth)
 }
 
 // Skin friction on a wall in a flow (eq. 3.82 to 3.84).
-pub fn friction_in(wall: Wall, flow: Flow) -> Coefficient
+#[tactic(auto, unfolding(crate::specs::Flows::friction_in))]
+pub fn friction_in(wall: Wall, flow: Flow) -> Result<f64, AeroError>
     ensures { result ≡ friction_in wall flow }
 {
     match flow {
-        Flow::Refused(refusal) => Coefficient::Refused(refusal),
         Flow::Subsonic {
             reynolds,
             turbulent,
@@ -260,39 +251,46 @@ pub fn friction_in(wall: Wall, flow: Flow) -> Coefficient
 }
 
 // Skin friction with compressibility on a wall.
-pub fn friction_on(wall: Wall, reynolds: f64, mach: f64) -> Coefficient
+pub fn friction_on(wall: Wall, reynolds: f64, mach: f64) -> Result<f64, AeroError>
     ensures { result ≡ friction_on wall reynolds mach }
 {
-    friction_in(wall, flow_of(!limits(wall, reynolds), reynolds, mach))
+    let flow = flow_of(!limits(wall, reynolds), reynolds, mach)?;
+    friction_in(wall, flow)
 }
 
 // Skin friction with compressibility (eq. 3.82 to 3.84).
-pub fn skin_friction_coefficient(reynolds: f64, relative_roughness: f64, mach: f64) -> Coefficient
+pub fn skin_friction_coefficient(
+    reynolds: f64,
+    relative_roughness: f64,
+    mach: f64,
+) -> Result<f64, AeroError>
     ensures { result ≡ skin_friction_coefficient reynolds relative_roughness mach }
 {
     friction_on(wall_at(reynolds, relative_roughness), reynolds, mach)
 }
 
 // Body friction form factor 1 + 1/(2 f_B) (eq. 3.85).
-pub fn body_friction_form_factor(fineness_ratio: f64) -> Coefficient
+#[tactic(auto, unfolding(crate::specs::Friction::body_friction_form_factor))]
+pub fn body_friction_form_factor(fineness_ratio: f64) -> Result<f64, AeroError>
     ensures { result ≡ body_friction_form_factor fineness_ratio }
 {
-    if let Check::Failed(refusal) = check_dimension(Quantity::BodyFineness, fineness_ratio, false) {
-        return Coefficient::Refused(refusal);
-    }
-    Coefficient::Value(1.0 + 0.5 / fineness_ratio)
+    check_dimension(Quantity::BodyFineness, fineness_ratio, false)?;
+    Ok(1.0 + 0.5 / fineness_ratio)
 }
 
 // ---- pressure drag
 
 // Stagnation-pressure ratio q_stag/q (eq. B.1).
-pub fn stagnation_pressure_ratio(mach: f64) -> Coefficient
+#[tactic(auto, unfolding(crate::specs::Pressure::stagnation_pressure_ratio))]
+pub fn stagnation_pressure_ratio(mach: f64) -> Result<f64, AeroError>
     ensures { result ≡ stagnation_pressure_ratio mach }
 {
-    gated(check_mach_any(mach), stagnation_ratio(mach))
+    check_mach_any(mach)?;
+    Ok(stagnation_ratio(mach))
 }
 
 // The same at a Mach number already checked.
+#[tactic(auto, unfolding(crate::specs::Pressure::stagnation_ratio))]
 pub fn stagnation_ratio(mach: f64) -> f64
     ensures { result ≡ stagnation_ratio mach }
 {
@@ -306,27 +304,25 @@ pub fn stagnation_ratio(mach: f64) -> f64
 }
 
 // Pressure drag of a blunt cylinder's face (eq. B.2).
-pub fn stagnation_drag_coefficient(mach: f64) -> Coefficient
+#[tactic(auto, unfolding(crate::specs::Pressure::stagnation_drag_coefficient))]
+pub fn stagnation_drag_coefficient(mach: f64) -> Result<f64, AeroError>
     ensures { result ≡ stagnation_drag_coefficient mach }
 {
-    let answer = stagnation_pressure_ratio(mach);
-    let Coefficient::Value(ratio) = answer else {
-        return answer;
-    };
-    Coefficient::Value(0.85 * ratio)
+    let ratio = stagnation_pressure_ratio(mach)?;
+    Ok(0.85 * ratio)
 }
 
 // Base drag on the base area (eq. 3.94).
-pub fn base_drag_coefficient(mach: f64) -> Coefficient
+#[tactic(auto, unfolding(crate::specs::Pressure::base_drag_coefficient))]
+pub fn base_drag_coefficient(mach: f64) -> Result<f64, AeroError>
     ensures { result ≡ base_drag_coefficient mach }
 {
-    if let Check::Failed(refusal) = check_mach_any(mach) {
-        return Coefficient::Refused(refusal);
-    }
-    Coefficient::Value(base_drag(mach))
+    check_mach_any(mach)?;
+    Ok(base_drag(mach))
 }
 
 // The same at a Mach number already checked.
+#[tactic(auto, unfolding(crate::specs::Pressure::base_drag))]
 fn base_drag(mach: f64) -> f64
     ensures { result ≡ base_drag mach }
 {
@@ -338,18 +334,18 @@ fn base_drag(mach: f64) -> f64
 }
 
 // Pressure drag at rest of a nose or shoulder, 0.8 sin² φ (eq. 3.86), for a joint angle in [0, π/2].
-pub fn joint_pressure_drag_coefficient(joint_angle_rad: f64) -> Coefficient
+#[tactic(auto, unfolding(crate::specs::Pressure::joint_pressure_drag_coefficient))]
+pub fn joint_pressure_drag_coefficient(joint_angle_rad: f64) -> Result<f64, AeroError>
     ensures { result ≡ joint_pressure_drag_coefficient joint_angle_rad }
 {
     let ok = is_between(0.0, joint_angle_rad, FRAC_PI_2);
-    if let Check::Failed(refusal) = require(ok, Quantity::JointAngle, joint_angle_rad) {
-        return Coefficient::Refused(refusal);
-    }
+    require(ok, Quantity::JointAngle, joint_angle_rad)?;
     let s = elementary::sin(joint_angle_rad);
-    Coefficient::Value(0.8 * s * s)
+    Ok(0.8 * s * s)
 }
 
 // The boattail rule's share of base drag by the length ratio (eq. 3.88).
+#[tactic(auto, unfolding(crate::specs::Pressure::boattail_share))]
 fn boattail_share(gamma: f64) -> f64
     ensures { result ≡ boattail_share gamma }
 {
@@ -363,19 +359,17 @@ fn boattail_share(gamma: f64) -> f64
 }
 
 // The boattail rule of a length and two diameters that must narrow.
-pub fn boattail_factor(length_m: f64, fore_diameter_m: f64, aft_diameter_m: f64) -> Coefficient
+#[tactic(auto, unfolding(crate::specs::Pressure::boattail_factor))]
+pub fn boattail_factor(
+    length_m: f64,
+    fore_diameter_m: f64,
+    aft_diameter_m: f64,
+) -> Result<f64, AeroError>
     ensures { result ≡ boattail_factor length_m fore_diameter_m aft_diameter_m }
 {
     let ok = is_finite(fore_diameter_m) && fore_diameter_m > aft_diameter_m;
-    let check = then(
-        check_dimension(Quantity::BoattailLength, length_m, true),
-        then(
-            check_dimension(Quantity::BoattailAft, aft_diameter_m, true),
-            require(ok, Quantity::BoattailFore, fore_diameter_m),
-        ),
-    );
-    if let Check::Failed(refusal) = check {
-        return Coefficient::Refused(refusal);
-    }
-    Coefficient::Value(boattail_share(length_m / (fore_diameter_m - aft_diameter_m)))
+    check_dimension(Quantity::BoattailLength, length_m, true)?;
+    check_dimension(Quantity::BoattailAft, aft_diameter_m, true)?;
+    require(ok, Quantity::BoattailFore, fore_diameter_m)?;
+    Ok(boattail_share(length_m / (fore_diameter_m - aft_diameter_m)))
 }

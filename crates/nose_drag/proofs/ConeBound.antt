@@ -1,5 +1,6 @@
 -- The 3:1 cone's whole curve is bounded from Mach 0.8 on. Below Mach 1 it is a power of a number from 1/2 to 1, between Mach 1 and 1.3 a cubic, and from Mach 1.3
 -- on a quotient by a root of 1/2 or more, +infinity included.
+use Rattle.std.specs.Prelude.{Ok}
 use mathlib.Core.Path.{◌≡◌, refl, sym, subst}
 use mathlib.Core.Bool.{Bool, true, false}
 use Prim.Native.Nat.{zero, suc, ◌*◌, ◌^◌}
@@ -19,7 +20,6 @@ use Rattle.elementary.proofs.Same.{unsigned, round_held}
 use Rattle.elementary.proofs.Ranges.{reaches, stays_under, positive_from, positive_unsigned, least_from, within_under, less_one_within, one_within}
 use Rattle.elementary.proofs.ExpBound.{not_negative, pow_within}
 use Rattle.elementary.proofs.RootBound.{5/4, root_less_one_least}
-use Rattle.aero_error.specs.declared.Check.TheVariants.{Passed}
 use Rattle.drag.specs.Constants.{3·0}
 use Rattle.drag.specs.Friction.{mach_checked}
 use Rattle.drag.specs.Answered.{mach_passed}
@@ -181,7 +181,7 @@ above_within M p l =
     (within_more (1·0 ⊗ (cone_transonic S M).value) 633 (2 ^ 786) (lit≤ tt) (mul_within 1·0 (cone_transonic S M).value 1 633 (small 633 (lit< tt)) one_within (transonic_within M p)))
 
 -- ---- all of it
-pub cone_3_within : (M : Float) → T (fits binary64 M) → mach_checked M ≡ Passed → (M ≺ 0·8) ≡ false → Within (2 ^ 786) (reference_at cone_3 M).value
+pub cone_3_within : (M : Float) → T (fits binary64 M) → mach_checked M ≡ Ok tt → (M ≺ 0·8) ≡ false → Within (2 ^ 786) (reference_at cone_3 M).value
 cone_3_within M h checked high =
     let f = (mach_passed M checked).is_finite in
     let a = reaches 0·8 M eight_tenths.0 f high in

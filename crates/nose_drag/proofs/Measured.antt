@@ -1,6 +1,8 @@
 -- Where Stoney measured a nose, the curve's coefficient from Mach 0.8 on is that nose's own number under eq. B.9's scaling, bit for bit, whatever the fineness ratio and the
 -- joint angle: the weight of the upper reference is 0, and 0 times a finite difference adds nothing. (At weight 1 that can't be said of the upper reference:
 -- lo + 1 × (hi - lo) is rounded twice.)
+use Rattle.std.specs.Prelude.{Ok}
+use Rattle.nose_drag.specs.Curves.{cone_3, coefficient_of, power_bracket, parabolic_bracket, weight_of, new_curve, Curve}
 use mathlib.Core.Path.{◌≡◌, refl, sym, ap, ◌∙◌}
 use mathlib.Core.Bool.{false}
 use Prim.Native.Nat.{ℕ, ◌+◌, ◌^◌, ◌≤◌}
@@ -12,8 +14,6 @@ use Rattle.elementary.specs.Split.{Within}
 use Rattle.elementary.proofs.Sizes.{Fine, small, within_more}
 use Rattle.elementary.proofs.Bounds.{sub_within, within_finite}
 use Rattle.elementary.proofs.ZeroWeight.{nothing_of, alike_choice}
-use Rattle.aero_error.specs.declared.Check.TheVariants.{Passed}
-use Rattle.aero_error.specs.declared.Coefficient.TheVariants.{Value}
 use Rattle.drag.specs.Constants.{0·25, 0·85}
 use Rattle.drag.specs.Friction.{mach_checked}
 use Rattle.drag.specs.Answered.{mach_passed}
@@ -26,18 +26,16 @@ use Rattle.stoney.proofs.Bounded.{table_bounded}
 use Rattle.nose_drag.proofs.ConeBound.{cone_3_within}
 use Rattle.nose_drag.specs.declared.curve.Reference.{Reference}
 use Rattle.nose_drag.specs.declared.curve.PressureDragCurve.{PressureDragCurve}
-use Rattle.nose_drag.specs.declared.builder.Curve.{Curve}
 use Rattle.nose_drag.specs.Constants.{0·75}
 use Rattle.nose_drag.specs.Forms.{blunt}
 use Rattle.nose_drag.specs.Methods.{reference_at, mixed, scaled, fineness_scaled, fineness_exponent}
 use Rattle.nose_drag.specs.Values.{scaled_value, value_of_scaled}
-use Rattle.nose_drag.specs.Curves.{cone_3, coefficient_of, power_bracket, parabolic_bracket, weight_of, new_curve}
 use Rattle.nose_drag.specs.Between.{Between, between_coefficient, power_between, parabolic_between, haack_between, Measured, power_at_1/4, power_at_1/2, power_at_3/4, parabolic_at_1/2, parabolic_at_3/4, haack_at_0, own_number}
 
 -- ---- weight 0
 
 -- the lower reference alone, where both are bounded
-lower_alone : (nose : StoneyNose) (upper : Reference) (f M : Float) (n : ℕ) → 65 ≤ n → Fine (n + n) → mach_checked M ≡ Passed → Within n (reference_at upper M).value
+lower_alone : (nose : StoneyNose) (upper : Reference) (f M : Float) (n : ℕ) → 65 ≤ n → Fine (n + n) → mach_checked M ≡ Ok tt → Within n (reference_at upper M).value
     → (scaled (reference_at (Reference.Stoney nose) M) (reference_at upper M) 0·0 (fineness_exponent f) M).value ≡ own_number nose f M
 unfolding scaled_value blunt
 lower_alone nose upper f M n h F ok w =
@@ -57,7 +55,7 @@ record Begins (shape : NoseShape) (nose : StoneyNose) : Type 0 where
   pub bound : ℕ
   pub wide : 65 ≤ bound
   pub fine : Fine (bound + bound)
-  pub held : (M : Float) → T (fits binary64 M) → mach_checked M ≡ Passed → (M ≺ 0·8) ≡ false → Within bound (reference_at upper M).value
+  pub held : (M : Float) → T (fits binary64 M) → mach_checked M ≡ Ok tt → (M ≺ 0·8) ≡ false → Within bound (reference_at upper M).value
 
 on_table : {shape : NoseShape} {nose : StoneyNose} (next : StoneyNose) → Between shape (Reference.Stoney nose) (Reference.Stoney next) 0·0 → Begins shape nose
 on_table next b = record {
@@ -83,9 +81,9 @@ begins parabolic_at_3/4 = on_table Parabola (parabolic_between 0·75)
 begins haack_at_0 = on_table LvHaack (haack_between 0·0)
 
 pub measured_alone : {shape : NoseShape} {nose : StoneyNose} → Measured shape nose → (f φ : Float) (curve : PressureDragCurve) (M : Float)
-    → new_curve shape f φ ≡ Curve.Built curve → (f ≈ 0·0) ≡ false → T (fits binary64 M) → mach_checked M ≡ Passed → (M ≺ 0·8) ≡ false
-    → coefficient_of curve M ≡ Value (own_number nose f M)
+    → new_curve shape f φ ≡ Ok curve → (f ≈ 0·0) ≡ false → T (fits binary64 M) → mach_checked M ≡ Ok tt → (M ≺ 0·8) ≡ false
+    → coefficient_of curve M ≡ Ok (own_number nose f M)
 measured_alone {nose = nose} m f φ curve M e n h ok above =
     let b = begins m in
     between_coefficient b.between f φ curve e n M ok above
-    ∙ ap Value (lower_alone nose b.upper f M b.bound b.wide b.fine ok (b.held M h ok above))
+    ∙ ap Ok (lower_alone nose b.upper f M b.bound b.wide b.fine ok (b.held M h ok above))

@@ -1,15 +1,12 @@
 -- Below a method's lower bound M_L: eq. 3.87, fitted to the method's value and slope at M_L.
-use Rattle.std.specs.Prelude.{false, cond, ◌&&◌, Float}
+use Rattle.std.specs.Prelude.{false, cond, ◌&&◌, Float, Ok}
+use Rattle.aero_error.specs.Checks.{required, dimension, ◌then◌, ◌and_then◌, Check, Coefficient}
 use Rattle.std.specs.Float.Ieee.Scale.{finite}
 use Rattle.elementary.specs.Arithmetic.{◌⊕◌, ◌⊖◌, ◌⊗◌, ◌⊘◌, ◌≺◌, ◌≈◌}
 use Rattle.elementary.specs.Steps.{POW}
 use Rattle.elementary.specs.Tests.{between}
 use Rattle.elementary.specs.Constants.{2·0, 0·0, 1·0}
-use Rattle.aero_error.specs.declared.Check.{Check}
-use Rattle.aero_error.specs.declared.Coefficient.{Coefficient}
-use Rattle.aero_error.specs.declared.Coefficient.TheVariants.{Value}
 use Rattle.aero_error.specs.declared.Quantity.TheVariants.{TransonicLowerBound, DragAtRest, DragAtLowerBound, SlopeAtLowerBound, MachBelowLowerBound}
-use Rattle.aero_error.specs.Checks.{required, dimension, ◌then◌, ◌and_then◌}
 use Rattle.stoney.specs.declared.ValueAndSlope.{ValueAndSlope}
 use Rattle.nose_drag.specs.declared.fit.Fit.{Fit}
 use Rattle.nose_drag.specs.declared.fit.Fit.TheVariants.{Power, Quadratic}
@@ -58,4 +55,4 @@ below_checked c-rest c-low slope-low ML M =
 unfoldable pub subsonic_pressure_drag_coefficient : Float → Float → Float → Float → Float → Coefficient
 subsonic_pressure_drag_coefficient c-rest c-low slope-low ML M =
     below_checked c-rest c-low slope-low ML M and_then
-    Value (c-rest ⊕ (fit_at (fit_of (c-low ⊖ c-rest) slope-low ML) M ML).value)
+    Ok (c-rest ⊕ (fit_at (fit_of (c-low ⊖ c-rest) slope-low ML) M ML).value)

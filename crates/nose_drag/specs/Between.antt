@@ -1,6 +1,8 @@
 -- What `new_curve` makes of a shape that lies between two references, whatever its fineness ratio and its joint angle: a curve that from Mach 0.8 on is those two
 -- references, interpolated by the weight of the upper one and scaled by eq. B.9. `midway` names both references and the weight in the middle of every gap.
-use Rattle.std.specs.Prelude.{◌≡◌, refl, Bool, true, false, cond, [], ◌∷◌, map, ℕ, Float}
+use Rattle.std.specs.Prelude.{◌≡◌, refl, Bool, true, false, cond, [], ◌∷◌, map, ℕ, Float, Ok, Err}
+use Rattle.aero_error.specs.Checks.{required, dimension, Check, Coefficient, ◌and_then◌, ◌for_value◌}
+use Rattle.nose_drag.specs.Curves.{cone_3, coefficient_of, from_transonic, interpolated, step_curve, power_bracket, parabolic_bracket, weight_of, between_references, power, parabolic, haack, shaped, build, recorded, new_curve, Curve}
 use Rattle.std.proofs.Common.{sym, ◌∙◌, arith}
 use Rattle.std.proofs.Math.Path.{ap}
 use Rattle.std.proofs.Math.Option.{Option, none, some}
@@ -11,12 +13,7 @@ use Rattle.elementary.specs.Constants.{0·0, 0·5, 0·8, 1·0}
 use Rattle.aero_error.specs.declared.AeroError.{AeroError}
 use Rattle.aero_error.specs.declared.AeroError.TheVariants.{Broken}
 use Rattle.aero_error.specs.declared.Rule.TheVariants.{HaackAboveThird}
-use Rattle.aero_error.specs.declared.Check.{Check}
-use Rattle.aero_error.specs.declared.Check.TheVariants.{Passed, Failed}
-use Rattle.aero_error.specs.declared.Coefficient.{Coefficient}
-use Rattle.aero_error.specs.declared.Coefficient.TheVariants.{Value, Refused}
 use Rattle.aero_error.specs.declared.Quantity.TheVariants.{Fineness, PowerExponent, ParabolicParameter, HaackParameter}
-use Rattle.aero_error.specs.Checks.{required, dimension}
 use Rattle.drag.specs.Constants.{0·25, 3·0}
 use Rattle.drag.specs.Friction.{mach_checked}
 use Rattle.drag.specs.Pressure.{joint_pressure_drag_coefficient}
@@ -28,13 +25,11 @@ use Rattle.stoney.specs.Lookup.{value_and_slope}
 use Rattle.nose_drag.specs.declared.curve.Reference.{Reference}
 use Rattle.nose_drag.specs.declared.curve.Transonic.{Transonic}
 use Rattle.nose_drag.specs.declared.curve.PressureDragCurve.{PressureDragCurve}
-use Rattle.nose_drag.specs.declared.builder.Curve.{Curve}
 use Rattle.nose_drag.specs.Constants.{0·75, one_third}
 use Rattle.nose_drag.specs.Forms.{blunt}
 use Rattle.nose_drag.specs.Below.{fitted}
 use Rattle.nose_drag.specs.Weights.{0·625}
 use Rattle.nose_drag.specs.Methods.{reference_at, scaled, fineness_scaled, fineness_exponent}
-use Rattle.nose_drag.specs.Curves.{cone_3, coefficient_of, from_transonic, interpolated, step_curve, power_bracket, parabolic_bracket, weight_of, between_references, power, parabolic, haack, shaped, build, recorded, new_curve, ◌then_curve◌, ◌for_curve◌, ◌for_built◌}
 
 -- ---- the middle of every gap
 
@@ -46,8 +41,8 @@ method_references (Transonic.Scaled lower upper weight exponent) = some (lower, 
 method_references (Transonic.Ellipsoid f rest) = none
 
 abbrev references : Curve → Option (Reference × Reference × Float)
-references (Curve.Built curve) = method_references curve.transonic
-references (Curve.Refused e) = none
+references (Ok curve) = method_references curve.transonic
+references (Err e) = none
 
 -- 1/8, 3/8 and 7/8; 5/8 is among the weights
 abbrev 0·125 : Float
@@ -82,40 +77,40 @@ midway = refl
 
 -- a shape lies between two references: its curve of any length is interpolated between them
 pub record Between (shape : NoseShape) (lower upper : Reference) (weight : Float) : Type 0 where
-  pub curve : (f rest : Float) (curve : PressureDragCurve) → shaped shape f rest ≡ Curve.Built curve → curve ≡ interpolated rest f lower upper weight
+  pub curve : (f rest : Float) (curve : PressureDragCurve) → shaped shape f rest ≡ Ok curve → curve ≡ interpolated rest f lower upper weight
 
 abbrev built : Curve → PressureDragCurve
-built (Curve.Built curve) = curve
-built (Curve.Refused e) = step_curve
+built (Ok curve) = curve
+built (Err e) = step_curve
 
-none_built : {A : Type 0} {r : AeroError} {curve : PressureDragCurve} → Curve.Refused r ≡ Curve.Built curve → A
+none_built : {A : Type 0} {r : AeroError} {curve : PressureDragCurve} → Err r ≡ Ok curve → A
 none_built e = let z : ◌≡◌ {A = ℕ} 0 1 = cc in absurd (omega arith)
 
 -- a built curve is the shape's own, recorded
 record Made (shape : NoseShape) (f : Float) (curve : PressureDragCurve) : Type 0 where
   pub rest : Float
   pub inner : PressureDragCurve
-  pub own : shaped shape f rest ≡ Curve.Built inner
+  pub own : shaped shape f rest ≡ Ok inner
   pub same : curve ≡ recorded shape f inner
 
-made : (shape : NoseShape) (f φ : Float) (curve : PressureDragCurve) → new_curve shape f φ ≡ Curve.Built curve → (f ≈ 0·0) ≡ false → Made shape f curve
+made : (shape : NoseShape) (f φ : Float) (curve : PressureDragCurve) → new_curve shape f φ ≡ Ok curve → (f ≈ 0·0) ≡ false → Made shape f curve
 unfolding new_curve build
 made shape f φ curve e n = first (required (dimension f true) Fineness f) (joint_pressure_drag_coefficient φ) e
   where
     record_it : PressureDragCurve → Curve
-    record_it inner = Curve.Built (recorded shape f inner)
+    record_it inner = Ok (recorded shape f inner)
 
     after_joint : Float → Curve
-    after_joint rest = cond (f ≈ 0·0) (Curve.Built step_curve) (shaped shape f rest)
+    after_joint rest = cond (f ≈ 0·0) (Ok step_curve) (shaped shape f rest)
 
-    taken : (rest : Float) (c : Curve) → shaped shape f rest ≡ c → (c for_built record_it) ≡ Curve.Built curve → Made shape f curve
-    taken rest (Curve.Built inner) own e = record { rest = rest; inner = inner; own = own; same = ap built (sym e) }
-    taken rest (Curve.Refused r) own e = none_built e
+    taken : (rest : Float) (c : Curve) → shaped shape f rest ≡ c → (c for_value record_it) ≡ Ok curve → Made shape f curve
+    taken rest (Ok inner) own e = record { rest = rest; inner = inner; own = own; same = ap built (sym e) }
+    taken rest (Err r) own e = none_built e
 
-    first : (c : Check) (j : Coefficient) → ((c then_curve (j for_curve after_joint)) for_built record_it) ≡ Curve.Built curve → Made shape f curve
-    first (Failed r) j e = none_built e
-    first Passed (Refused r) e = none_built e
-    first Passed (Value rest) e = taken rest (shaped shape f rest) refl (rw n at e)
+    first : (c : Check) (j : Coefficient) → ((c and_then (j for_value after_joint)) for_value record_it) ≡ Ok curve → Made shape f curve
+    first (Err r) j e = none_built e
+    first (Ok tt) (Err r) e = none_built e
+    first (Ok tt) (Ok rest) e = taken rest (shaped shape f rest) refl (rw n at e)
 
 -- what a record adds moves neither M_L nor the method
 record Same (a b : PressureDragCurve) : Type 0 where
@@ -131,7 +126,7 @@ record_method shape f inner = by (0·0 ≺ f) _ (record { method = refl; low = r
     by false c s = record { method = refl; low = refl }
 
 module _ {shape : NoseShape} {lower upper : Reference} {weight : Float} (b : Between shape lower upper weight) (f φ : Float) (curve : PressureDragCurve)
-    (e : new_curve shape f φ ≡ Curve.Built curve) (n : (f ≈ 0·0) ≡ false) where
+    (e : new_curve shape f φ ≡ Ok curve) (n : (f ≈ 0·0) ≡ false) where
   -- the method of the curve that `new_curve` makes
   pub between_method : curve.transonic ≡ Transonic.Scaled lower upper weight (fineness_exponent f)
   unfolding interpolated from_transonic
@@ -147,16 +142,16 @@ module _ {shape : NoseShape} {lower upper : Reference} {weight : Float} (b : Bet
       ap (λ (c : PressureDragCurve). c.mach_low) m.same ∙ (record_method shape f m.inner).low ∙ ap (λ (c : PressureDragCurve). c.mach_low) (b.curve f m.rest m.inner m.own)
 
   -- and from there on it is the coefficient
-  pub between_coefficient : (M : Float) → mach_checked M ≡ Passed → (M ≺ 0·8) ≡ false
-      → coefficient_of curve M ≡ Value (scaled (reference_at lower M) (reference_at upper M) weight (fineness_exponent f) M).value
+  pub between_coefficient : (M : Float) → mach_checked M ≡ Ok tt → (M ≺ 0·8) ≡ false
+      → coefficient_of curve M ≡ Ok (scaled (reference_at lower M) (reference_at upper M) weight (fineness_exponent f) M).value
   unfolding coefficient_of fitted
   between_coefficient M ok above = rw (ok, between_low, above, between_method)
 
 -- ---- the three series, whatever the parameter
 
-once_passed : (check : Check) (made curve : PressureDragCurve) → (check then_curve Curve.Built made) ≡ Curve.Built curve → curve ≡ made
-once_passed Passed made curve e = ap built (sym e)
-once_passed (Failed r) made curve e = none_built e
+once_passed : (check : Check) (made curve : PressureDragCurve) → (check and_then Ok made) ≡ Ok curve → curve ≡ made
+once_passed (Ok tt) made curve e = ap built (sym e)
+once_passed (Err r) made curve e = none_built e
 
 pub power_between : (n : Float) → Between (PowerSeries n) (power_bracket n).lower (power_bracket n).upper (weight_of (power_bracket n) n)
 unfolding power between_references
@@ -174,7 +169,7 @@ haack_between c = record { curve = λ f rest curve e. by (one_third ≺ c) f res
     own rest f = interpolated rest f (Reference.Stoney VonKarman) (Reference.Stoney LvHaack) (3·0 ⊗ c)
 
     by : (t : Bool) (f rest : Float) (curve : PressureDragCurve)
-        → cond t (Curve.Refused (Broken HaackAboveThird)) (required (between 0·0 c one_third) HaackParameter c then_curve Curve.Built (own rest f)) ≡ Curve.Built curve → curve ≡ own rest f
+        → cond t (Err (Broken HaackAboveThird)) (required (between 0·0 c one_third) HaackParameter c and_then Ok (own rest f)) ≡ Ok curve → curve ≡ own rest f
     by true f rest curve e = none_built e
     by false f rest curve e = once_passed (required (between 0·0 c one_third) HaackParameter c) (own rest f) curve e
 

@@ -1,5 +1,6 @@
 -- A curve's coefficient at a Mach number, and the curve of each shape (nose_drag.rs, `PressureDragCurve`). f is the fineness ratio, φ the joint angle.
-use Rattle.std.specs.Prelude.{Bool, true, false, cond, ◌&&◌, ◌||◌, Float}
+use Rattle.aero_error.specs.Checks.{required, dimension, ◌and_then◌, ◌for_value◌, Check, Coefficient}
+use Rattle.std.specs.Prelude.{Result, Ok, Err, Some, None, Bool, true, false, cond, ◌&&◌, ◌||◌, Float}
 use Rattle.std.proofs.Math.Option.{Option, none, some}
 use Rattle.std.specs.Float.Ieee.{ne}
 use Rattle.std.specs.Float.Ieee.Scale.{finite}
@@ -7,13 +8,11 @@ use Rattle.elementary.specs.Arithmetic.{◌⊕◌, ◌⊖◌, ◌⊗◌, ◌⊘�
 use Rattle.elementary.specs.Steps.{LN}
 use Rattle.elementary.specs.Tests.{between}
 use Rattle.elementary.specs.Constants.{ln_2, 0·0, 0·5, 1·0}
+use Rattle.aero_error.specs.declared.AeroError.{AeroError}
 use Rattle.aero_error.specs.declared.AeroError.TheVariants.{Broken}
 use Rattle.aero_error.specs.declared.Rule.TheVariants.{OgiveRadiusRatio, HaackAboveThird}
-use Rattle.aero_error.specs.declared.Check.{Check}
-use Rattle.aero_error.specs.declared.Coefficient.{Coefficient}
 use Rattle.aero_error.specs.declared.Quantity.{Quantity}
 use Rattle.aero_error.specs.declared.Quantity.TheVariants.{Fineness, PowerExponent, ParabolicParameter, HaackParameter}
-use Rattle.aero_error.specs.Checks.{required, dimension, after, with_value, ◌and_then◌}
 use Rattle.aero_error.specs.Told.{Told, told_of}
 use Rattle.drag.specs.Constants.{0·25, 3·0}
 use Rattle.stoney.specs.Lookup.{subsonic_mach_limit}
@@ -25,23 +24,24 @@ use Rattle.stoney.specs.declared.StoneyNose.TheVariants.{PowerQuarter, PowerHalf
 use Rattle.stoney.specs.declared.ValueAndSlope.{ValueAndSlope}
 use Rattle.nose_drag.specs.declared.curve.Reference.{Reference}
 use Rattle.nose_drag.specs.declared.curve.Transonic.{Transonic}
-use Rattle.nose_drag.specs.declared.curve.CurveShape.{CurveShape}
 use Rattle.nose_drag.specs.declared.curve.PressureDragCurve.{PressureDragCurve}
-use Rattle.nose_drag.specs.declared.builder.Curve.{Curve}
 use Rattle.nose_drag.specs.declared.builder.Bracket.{Bracket}
 use Rattle.nose_drag.specs.Constants.{0·75, cone_3_rest, one_third}
 use Rattle.nose_drag.specs.Forms.{sin_half_angle}
 use Rattle.nose_drag.specs.Below.{rest_with, fit_with, fitted}
 use Rattle.nose_drag.specs.Methods.{ogive_pressure_drag_factor, fineness_exponent, method_at}
 
-infixr 20 ◌then_curve◌ ◌for_curve◌ ◌for_built◌
+-- the builder's answer
+abbrev pub Curve : Type 0
+Curve = Result PressureDragCurve AeroError
+
 -- ---- a curve at a Mach number
 
 abbrev pub curve_at : PressureDragCurve → Float → ValueAndSlope
 curve_at curve M = fitted curve.rest curve.fit curve.mach_low (method_at curve.transonic) M
 
 unfoldable pub coefficient_of : PressureDragCurve → Float → Coefficient
-coefficient_of curve M = mach_checked M and_then Coefficient.Value (curve_at curve M).value
+coefficient_of curve M = mach_checked M and_then Ok (curve_at curve M).value
 
 -- ---- making a curve
 
@@ -50,7 +50,7 @@ unfoldable pub from_transonic : Float → Transonic → Float → PressureDragCu
 from_transonic rest transonic ML =
     let low = method_at transonic ML in
     record {
-      shape = CurveShape.Step;
+      shape = None;
       fineness_ratio = 0·0;
       rest = rest_with rest low ML;
       mach_low = ML;
@@ -110,27 +110,16 @@ between_references rest f b parameter = interpolated rest f b.lower b.upper (wei
 
 -- ---- the builder
 
--- Rust's `?` where the answer is a curve
-abbrev pub ◌then_curve◌ : Check → Curve → Curve
-check then_curve answer = after Curve.Refused check answer
-
-abbrev pub ◌for_curve◌ : Coefficient → (Float → Curve) → Curve
-first for_curve rest = with_value Curve.Refused first rest
-
-abbrev pub ◌for_built◌ : Curve → (PressureDragCurve → Curve) → Curve
-Curve.Built curve for_built rest = rest curve
-Curve.Refused refusal for_built rest = Curve.Refused refusal
-
 -- "Ogive radius ratio NaN, infinite or below 1 is refusal 2."
 unfoldable pub ogive : Float → Float → Float → Curve
 ogive rest f radius-ratio =
     cond (finite radius-ratio && 1·0 ≼ radius-ratio)
-    (ogive_pressure_drag_factor (1·0 ⊘ radius-ratio) for_curve λ factor. Curve.Built (cone_curve rest f factor))
-    (Curve.Refused (Broken OgiveRadiusRatio))
+    (ogive_pressure_drag_factor (1·0 ⊘ radius-ratio) for_value λ factor. Ok (cone_curve rest f factor))
+    (Err (Broken OgiveRadiusRatio))
 
 -- between the references around a parameter from 0 to 1
 abbrev pub series : Float → Float → Bracket → Quantity → Float → Curve
-series rest f b what parameter = required (between 0·0 parameter 1·0) what parameter then_curve Curve.Built (between_references rest f b parameter)
+series rest f b what parameter = required (between 0·0 parameter 1·0) what parameter and_then Ok (between_references rest f b parameter)
 
 unfoldable pub power : Float → Float → Float → Curve
 power rest f n = series rest f (power_bracket n) PowerExponent n
@@ -142,14 +131,14 @@ parabolic rest f k = series rest f (parabolic_bracket k) ParabolicParameter k
 unfoldable pub haack : Float → Float → Float → Curve
 haack rest f c =
     cond (one_third ≺ c)
-    (Curve.Refused (Broken HaackAboveThird))
-    (required (between 0·0 c one_third) HaackParameter c then_curve
-    Curve.Built (interpolated rest f (Reference.Stoney VonKarman) (Reference.Stoney LvHaack) (3·0 ⊗ c)))
+    (Err (Broken HaackAboveThird))
+    (required (between 0·0 c one_third) HaackParameter c and_then
+    Ok (interpolated rest f (Reference.Stoney VonKarman) (Reference.Stoney LvHaack) (3·0 ⊗ c)))
 
 abbrev pub shaped : NoseShape → Float → Float → Curve
-shaped Conical f rest = Curve.Built (cone_curve rest f 1·0)
+shaped Conical f rest = Ok (cone_curve rest f 1·0)
 shaped (Ogive radius-ratio) f rest = ogive rest f radius-ratio
-shaped Elliptical f rest = Curve.Built (from_transonic rest (Transonic.Ellipsoid f rest) 0·0)
+shaped Elliptical f rest = Ok (from_transonic rest (Transonic.Ellipsoid f rest) 0·0)
 shaped (PowerSeries n) f rest = power rest f n
 shaped (ParabolicSeries k) f rest = parabolic rest f k
 shaped (Haack c) f rest = haack rest f c
@@ -157,24 +146,24 @@ shaped (Haack c) f rest = haack rest f c
 -- "`new` checks fineness, then joint angle; fineness 0 then gives the step whatever the shape parameter is."
 unfoldable pub build : NoseShape → Float → Float → Curve
 build shape f φ =
-    required (dimension f true) Fineness f then_curve
-    joint_pressure_drag_coefficient φ for_curve λ rest.
-    cond (f ≈ 0·0) (Curve.Built step_curve) (shaped shape f rest)
+    required (dimension f true) Fineness f and_then
+    joint_pressure_drag_coefficient φ for_value λ rest.
+    cond (f ≈ 0·0) (Ok step_curve) (shaped shape f rest)
 
 -- a shape that has a length is recorded with its fineness ratio
 unfoldable pub recorded : NoseShape → Float → PressureDragCurve → PressureDragCurve
 recorded shape f curve =
     cond (0·0 ≺ f)
-    (record { shape = CurveShape.Of shape; fineness_ratio = f; rest = curve.rest; mach_low = curve.mach_low; fit = curve.fit; transonic = curve.transonic })
+    (record { shape = Some shape; fineness_ratio = f; rest = curve.rest; mach_low = curve.mach_low; fit = curve.fit; transonic = curve.transonic })
     curve
 
 unfoldable pub new_curve : NoseShape → Float → Float → Curve
-new_curve shape f φ = build shape f φ for_built λ curve. Curve.Built (recorded shape f curve)
+new_curve shape f φ = build shape f φ for_value λ curve. Ok (recorded shape f curve)
 
 -- what the builder's answer tells: nothing where the curve is built
 abbrev pub told_of_curve : Curve → Option Told
-told_of_curve (Curve.Built curve) = none
-told_of_curve (Curve.Refused e) = some (told_of e)
+told_of_curve (Ok curve) = none
+told_of_curve (Err e) = some (told_of e)
 
 -- ---- whether a shape takes any of the closed-form cone; a NaN parameter counts
 abbrev pub takes_cone_formula : NoseShape → Bool

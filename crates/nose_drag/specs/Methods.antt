@@ -1,12 +1,10 @@
 -- References and methods, without a depth: the cone's whole curve first, then references, then the transonic methods that ask them.
-use Rattle.std.specs.Prelude.{true, false, cond, ◌&&◌, Float}
+use Rattle.std.specs.Prelude.{true, false, cond, ◌&&◌, Float, Ok}
+use Rattle.aero_error.specs.Checks.{required, dimension, ◌then◌, ◌and_then◌, Coefficient}
 use Rattle.elementary.specs.Arithmetic.{◌⊕◌, ◌⊖◌, ◌⊗◌, ◌⊘◌, ◌≺◌, ◌≼◌}
 use Rattle.elementary.specs.Steps.{LN, POW}
 use Rattle.elementary.specs.Tests.{between, max_of}
-use Rattle.aero_error.specs.declared.Coefficient.{Coefficient}
-use Rattle.aero_error.specs.declared.Coefficient.TheVariants.{Value}
 use Rattle.aero_error.specs.declared.Quantity.TheVariants.{Fineness, EllipsoidFineness, EllipsoidMach, OgiveKappa, FinenessThreeDrag, BluntDrag}
-use Rattle.aero_error.specs.Checks.{required, dimension, ◌then◌, ◌and_then◌}
 use Rattle.elementary.specs.Constants.{0·0, 0·5, 1·0}
 use Rattle.stoney.specs.declared.StoneyNose.TheVariants
 use Rattle.stoney.specs.declared.ValueAndSlope.{ValueAndSlope}
@@ -23,7 +21,7 @@ unfoldable pub ogive_pressure_drag_factor : Float → Coefficient
 ogive_pressure_drag_factor κ =
     let d = κ ⊖ 0·5 in
     required (between 0·0 κ 1·0) OgiveKappa κ and_then
-    Value (0·72 ⊗ d ⊗ d ⊕ 0·82)
+    Ok (0·72 ⊗ d ⊗ d ⊕ 0·82)
 
 -- eq. B.9 with its exponent: from the drag c3 measured at fineness 3 and the blunt cylinder's c0
 abbrev pub fineness_scaled : Float → Float → Float → Float
@@ -38,7 +36,7 @@ fineness_scaled_pressure_drag c3 c0 f =
     (required (dimension c3 true) FinenessThreeDrag c3
     then required (dimension c0 false) BluntDrag c0
     then required (dimension f true) Fineness f)
-    and_then Value (fineness_scaled c3 c0 (fineness_exponent f))
+    and_then Ok (fineness_scaled c3 c0 (fineness_exponent f))
 
 -- ---- references
 
@@ -112,7 +110,7 @@ unfoldable pub ellipsoid_subsonic_pressure_drag : Float → Float → Coefficien
 ellipsoid_subsonic_pressure_drag f M =
     (required (dimension f false) EllipsoidFineness f
     then required (0·0 ≼ M && M ≺ subsonic_mach_limit) EllipsoidMach M)
-    and_then Value (ellipsoid_low_speed f M).value
+    and_then Ok (ellipsoid_low_speed f M).value
 
 abbrev pub method_at : Transonic → Float → ValueAndSlope
 method_at Transonic.Blunt M = blunt M

@@ -3,9 +3,9 @@ ghost use Rattle.std.specs.Prelude.{◌≡◌};
 ghost use Rattle.nose_drag.specs.Curves.{takes_cone_formula, cone_curve, interpolated as interpolated_of, power_bracket, parabolic_bracket, between_references, ogive as ogive_of, series as series_of, power as power_of, parabolic as parabolic_of, haack as haack_of, shaped as shaped_of, build as build_of, new_curve};
 
 use crate::cone::ogive_pressure_drag_factor;
-use crate::curve::{CurveShape, DEPTH, PressureDragCurve, Reference, Transonic};
+use crate::curve::{DEPTH, PressureDragCurve, Reference, Transonic};
 use crate::scaling::fineness_exponent;
-use aero_error::{AeroError, Check, Coefficient, Quantity, Rule, check_dimension, require};
+use aero_error::{AeroError, Quantity, Rule, check_dimension, require};
 use drag::joint_pressure_drag_coefficient;
 use elementary::{LN_2, is_between, is_finite};
 use shapes::NoseShape;
@@ -29,6 +29,7 @@ struct Bracket {
 
 impl PressureDragCurve {
     // A cone times an ogive's factor: the closed form from fineness 1; below it eq. B.9's form between the flat face and the whole curve at fineness 1.
+    #[tactic(auto, unfolding(crate::specs::Curves::cone_curve))]
     fn cone(rest: f64, fineness_ratio: f64, factor: f64) -> PressureDragCurve
         ensures { result ≡ cone_curve rest fineness_ratio factor }
     {
@@ -51,6 +52,7 @@ impl PressureDragCurve {
     }
 
     // Between two references, by the weight of the upper one, scaled to the fineness ratio.
+    #[tactic(auto, unfolding(crate::specs::Curves::interpolated))]
     fn interpolated(
         rest: f64,
         fineness_ratio: f64,
@@ -70,28 +72,19 @@ impl PressureDragCurve {
     }
 
     // The curve of a nose or shoulder: its shape, its fineness ratio l/(d_aft - d_fore) and its joint angle at the aft end.
-    pub fn new(shape: NoseShape, fineness_ratio: f64, joint_angle_rad: f64) -> Curve
+    pub fn new(
+        shape: NoseShape,
+        fineness_ratio: f64,
+        joint_angle_rad: f64,
+    ) -> Result<PressureDragCurve, AeroError>
         ensures { result ≡ new_curve shape fineness_ratio joint_angle_rad }
     {
-        match build(shape, fineness_ratio, joint_angle_rad) {
-            Curve::Refused(refusal) => Curve::Refused(refusal),
-            Curve::Built(curve) => {
-                if fineness_ratio > 0.0 {
-                    let fit = curve.fit;
-                    let transonic = curve.transonic;
-                    Curve::Built(PressureDragCurve {
-                        shape: CurveShape::Of(shape),
-                        fineness_ratio,
-                        rest: curve.rest,
-                        mach_low: curve.mach_low,
-                        fit,
-                        transonic,
-                    })
-                } else {
-                    Curve::Built(curve)
-                }
-            }
+        let mut curve = build(shape, fineness_ratio, joint_angle_rad)?;
+        if fineness_ratio > 0.0 {
+            curve.shape = Some(shape);
+            curve.fineness_ratio = fineness_ratio;
         }
+        Ok(curve)
     }
 }
 
@@ -110,6 +103,7 @@ pub fn takes_cone_formula(shape: NoseShape) -> bool
 }
 
 // The references on either side of a power series' exponent.
+#[tactic(auto, unfolding(crate::specs::Curves::power_bracket))]
 fn power_bracket(n: f64) -> Bracket
     ensures { result ≡ power_bracket n }
 {
@@ -145,6 +139,7 @@ fn power_bracket(n: f64) -> Bracket
 }
 
 // The references on either side of a parabolic series' parameter.
+#[tactic(auto, unfolding(crate::specs::Curves::parabolic_bracket))]
 fn parabolic_bracket(k: f64) -> Bracket
     ensures { result ≡ parabolic_bracket k }
 {
@@ -173,6 +168,7 @@ fn parabolic_bracket(k: f64) -> Bracket
 }
 
 // Interpolated in the parameter between the two references of a bracket.
+#[tactic(auto, unfolding(crate::specs::Curves::between_references, crate::specs::Curves::weight_of))]
 fn between_references(
     rest: f64,
     fineness_ratio: f64,
@@ -188,36 +184,36 @@ fn between_references(
 }
 
 // The cone times eq. B.8's factor, κ being one over the radius ratio.
-fn ogive(rest: f64, fineness_ratio: f64, radius_ratio: f64) -> Curve
+#[tactic(auto, unfolding(crate::specs::Curves::ogive))]
+fn ogive(rest: f64, fineness_ratio: f64, radius_ratio: f64) -> Result<PressureDragCurve, AeroError>
     ensures { result ≡ ogive_of rest fineness_ratio radius_ratio }
 {
     if is_finite(radius_ratio) {
         if radius_ratio >= 1.0 {
-            return match ogive_pressure_drag_factor(1.0 / radius_ratio) {
-                Coefficient::Refused(refusal) => Curve::Refused(refusal),
-                Coefficient::Value(factor) => Curve::Built(PressureDragCurve::cone(
-                    rest,
-                    fineness_ratio,
-                    factor,
-                )),
-            };
+            let factor = ogive_pressure_drag_factor(1.0 / radius_ratio)?;
+            return Ok(PressureDragCurve::cone(rest, fineness_ratio, factor));
         }
     }
-    Curve::Refused(AeroError::Broken(Rule::OgiveRadiusRatio))
+    Err(AeroError::Broken(Rule::OgiveRadiusRatio))
 }
 
 // A shape between two references, for a parameter in [0, 1].
-fn series(rest: f64, fineness_ratio: f64, bracket: Bracket, what: Quantity, parameter: f64) -> Curve
+fn series(
+    rest: f64,
+    fineness_ratio: f64,
+    bracket: Bracket,
+    what: Quantity,
+    parameter: f64,
+) -> Result<PressureDragCurve, AeroError>
     ensures { result ≡ series_of rest fineness_ratio bracket what parameter }
 {
     let ok = is_between(0.0, parameter, 1.0);
-    if let Check::Failed(refusal) = require(ok, what, parameter) {
-        return Curve::Refused(refusal);
-    }
-    Curve::Built(between_references(rest, fineness_ratio, bracket, parameter))
+    require(ok, what, parameter)?;
+    Ok(between_references(rest, fineness_ratio, bracket, parameter))
 }
 
-fn power(rest: f64, fineness_ratio: f64, n: f64) -> Curve
+#[tactic(auto, unfolding(crate::specs::Curves::power))]
+fn power(rest: f64, fineness_ratio: f64, n: f64) -> Result<PressureDragCurve, AeroError>
     ensures { result ≡ power_of rest fineness_ratio n }
 {
     series(
@@ -229,7 +225,8 @@ fn power(rest: f64, fineness_ratio: f64, n: f64) -> Curve
     )
 }
 
-fn parabolic(rest: f64, fineness_ratio: f64, k: f64) -> Curve
+#[tactic(auto, unfolding(crate::specs::Curves::parabolic))]
+fn parabolic(rest: f64, fineness_ratio: f64, k: f64) -> Result<PressureDragCurve, AeroError>
     ensures { result ≡ parabolic_of rest fineness_ratio k }
 {
     series(
@@ -241,34 +238,33 @@ fn parabolic(rest: f64, fineness_ratio: f64, k: f64) -> Curve
     )
 }
 
-fn haack(rest: f64, fineness_ratio: f64, c: f64) -> Curve
+#[tactic(auto, unfolding(crate::specs::Curves::haack))]
+fn haack(rest: f64, fineness_ratio: f64, c: f64) -> Result<PressureDragCurve, AeroError>
     ensures { result ≡ haack_of rest fineness_ratio c }
 {
     if c > 1.0 / 3.0 {
-        return Curve::Refused(AeroError::Broken(Rule::HaackAboveThird));
+        return Err(AeroError::Broken(Rule::HaackAboveThird));
     }
     let ok = is_between(0.0, c, 1.0 / 3.0);
-    if let Check::Failed(refusal) = require(ok, Quantity::HaackParameter, c) {
-        return Curve::Refused(refusal);
-    }
+    require(ok, Quantity::HaackParameter, c)?;
     let lower = Reference::Stoney(StoneyNose::VonKarman);
     let upper = Reference::Stoney(StoneyNose::LvHaack);
-    Curve::Built(PressureDragCurve::interpolated(rest, fineness_ratio, lower, upper, 3.0 * c))
+    Ok(PressureDragCurve::interpolated(rest, fineness_ratio, lower, upper, 3.0 * c))
 }
 
 // The curve of a shape of some length, from its value at rest.
-fn shaped(shape: NoseShape, fineness_ratio: f64, rest: f64) -> Curve
+fn shaped(shape: NoseShape, fineness_ratio: f64, rest: f64) -> Result<PressureDragCurve, AeroError>
     ensures { result ≡ shaped_of shape fineness_ratio rest }
 {
     match shape {
-        NoseShape::Conical => Curve::Built(PressureDragCurve::cone(rest, fineness_ratio, 1.0)),
+        NoseShape::Conical => Ok(PressureDragCurve::cone(rest, fineness_ratio, 1.0)),
         NoseShape::Ogive { radius_ratio } => ogive(rest, fineness_ratio, radius_ratio),
         NoseShape::Elliptical => {
             let method = Transonic::Ellipsoid {
                 fineness_ratio,
                 rest,
             };
-            Curve::Built(PressureDragCurve::from_transonic(rest, method, 0.0, DEPTH))
+            Ok(PressureDragCurve::from_transonic(rest, method, 0.0, DEPTH))
         }
         NoseShape::PowerSeries { exponent } => power(rest, fineness_ratio, exponent),
         NoseShape::ParabolicSeries { parameter } => parabolic(rest, fineness_ratio, parameter),
@@ -277,20 +273,19 @@ fn shaped(shape: NoseShape, fineness_ratio: f64, rest: f64) -> Curve
 }
 
 // The curve before it records its inputs: fineness first, then the joint angle; fineness 0 is then the step whatever the shape.
-fn build(shape: NoseShape, fineness_ratio: f64, joint_angle_rad: f64) -> Curve
+#[tactic(auto, unfolding(crate::specs::Curves::build))]
+fn build(
+    shape: NoseShape,
+    fineness_ratio: f64,
+    joint_angle_rad: f64,
+) -> Result<PressureDragCurve, AeroError>
     ensures { result ≡ build_of shape fineness_ratio joint_angle_rad }
 {
-    if let Check::Failed(refusal) = check_dimension(Quantity::Fineness, fineness_ratio, true) {
-        return Curve::Refused(refusal);
-    }
-    match joint_pressure_drag_coefficient(joint_angle_rad) {
-        Coefficient::Refused(refusal) => Curve::Refused(refusal),
-        Coefficient::Value(rest) => {
-            if fineness_ratio == 0.0 {
-                Curve::Built(PressureDragCurve::step())
-            } else {
-                shaped(shape, fineness_ratio, rest)
-            }
-        }
+    check_dimension(Quantity::Fineness, fineness_ratio, true)?;
+    let rest = joint_pressure_drag_coefficient(joint_angle_rad)?;
+    if fineness_ratio == 0.0 {
+        Ok(PressureDragCurve::step())
+    } else {
+        shaped(shape, fineness_ratio, rest)
     }
 }

@@ -4,7 +4,7 @@ ghost use Rattle.nose_drag.specs.Forms.{stagnation_drag_slope, blunt as blunt_of
 ghost use Rattle.nose_drag.specs.Values.{cone_by_root};
 ghost use Rattle.nose_drag.specs.Methods.{ogive_pressure_drag_factor};
 
-use aero_error::{Coefficient, Quantity, gated, require};
+use aero_error::{AeroError, Quantity, require};
 use drag::stagnation_ratio;
 use elementary::is_between;
 use stoney::ValueAndSlope;
@@ -19,6 +19,7 @@ const GAMMA: f64 = 1.4;
 const CONE_SUPERSONIC_ROOT: f64 = 0.8306623862918076;
 
 // The slope in Mach of the blunt cylinder's 0.85 q_stag/q (eq. B.1 and B.2 differentiated).
+#[tactic(auto, unfolding(crate::specs::Forms::stagnation_drag_slope))]
 fn stagnation_drag_slope(mach: f64) -> f64
     ensures { result ≡ stagnation_drag_slope mach }
 {
@@ -32,6 +33,7 @@ fn stagnation_drag_slope(mach: f64) -> f64
 }
 
 // The blunt cylinder (eq. B.2): fineness 0, and a power series of exponent 0.
+#[tactic(auto, unfolding(crate::specs::Forms::blunt))]
 pub(crate) fn blunt(mach: f64) -> ValueAndSlope
     ensures { result ≡ blunt_of mach }
 {
@@ -42,6 +44,7 @@ pub(crate) fn blunt(mach: f64) -> ValueAndSlope
 }
 
 // The cubic from (x0, y0) with slope m0 to (x1, y1) with slope m1, at x.
+#[tactic(auto, unfolding(crate::specs::Forms::hermite))]
 fn hermite(x0: f64, y0: f64, m0: f64, x1: f64, y1: f64, m1: f64, x: f64) -> ValueAndSlope
     ensures { result ≡ hermite_of x0 y0 m0 x1 y1 m1 x }
 {
@@ -61,6 +64,7 @@ fn hermite(x0: f64, y0: f64, m0: f64, x1: f64, y1: f64, m1: f64, x: f64) -> Valu
 }
 
 // Eq. B.4, with the root of M² - 1.
+#[tactic(auto, unfolding(crate::specs::Values::cone_by_root))]
 fn cone_by_root(s: f64, m: f64, root: f64) -> ValueAndSlope
     ensures { result ≡ cone_by_root s m root }
 {
@@ -71,6 +75,7 @@ fn cone_by_root(s: f64, m: f64, root: f64) -> ValueAndSlope
 }
 
 // Eq. B.4, from Mach 1.3.
+#[tactic(auto, unfolding(crate::specs::Forms::cone_supersonic, crate::specs::Values::cone_by_root))]
 fn cone_supersonic(s: f64, m: f64) -> ValueAndSlope
     ensures { result ≡ cone_supersonic s m }
 {
@@ -98,6 +103,7 @@ fn cone_transonic(s: f64, mach: f64) -> ValueAndSlope
 }
 
 // The sine of a cone's half-angle, tan ε = 1/(2f) (eq. B.3).
+#[tactic(auto, unfolding(crate::specs::Forms::sin_half_angle))]
 pub(crate) fn sin_half_angle(fineness_ratio: f64) -> f64
     ensures { result ≡ sin_half_angle fineness_ratio }
 {
@@ -106,6 +112,7 @@ pub(crate) fn sin_half_angle(fineness_ratio: f64) -> f64
 }
 
 // A cone times an ogive's factor.
+#[tactic(auto, unfolding(crate::specs::Forms::cone_method))]
 pub(crate) fn cone_method(sin_half_angle: f64, factor: f64, mach: f64) -> ValueAndSlope
     ensures { result ≡ cone_method sin_half_angle factor mach }
 {
@@ -117,6 +124,7 @@ pub(crate) fn cone_method(sin_half_angle: f64, factor: f64, mach: f64) -> ValueA
 }
 
 // The value alone.
+#[tactic(auto, unfolding(crate::specs::Forms::cone_method, crate::specs::Forms::cone_transonic))]
 pub(crate) fn cone_value(sin_half_angle: f64, factor: f64, mach: f64) -> f64
     ensures { result ≡ (cone_method sin_half_angle factor mach).value }
 {
@@ -130,10 +138,11 @@ pub(crate) fn cone_value(sin_half_angle: f64, factor: f64, mach: f64) -> f64
 }
 
 // Eq. B.8's ratio of an ogive's pressure drag to the cone's, for κ in [0, 1].
-pub fn ogive_pressure_drag_factor(kappa: f64) -> Coefficient
+#[tactic(auto, unfolding(crate::specs::Methods::ogive_pressure_drag_factor))]
+pub fn ogive_pressure_drag_factor(kappa: f64) -> Result<f64, AeroError>
     ensures { result ≡ ogive_pressure_drag_factor kappa }
 {
     let d = kappa - 0.5;
-    let check = require(is_between(0.0, kappa, 1.0), Quantity::OgiveKappa, kappa);
-    gated(check, 0.72 * d * d + 0.82)
+    require(is_between(0.0, kappa, 1.0), Quantity::OgiveKappa, kappa)?;
+    Ok(0.72 * d * d + 0.82)
 }

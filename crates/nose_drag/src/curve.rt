@@ -11,7 +11,7 @@ use crate::cone::{blunt, cone_method, cone_value, sin_half_angle};
 use crate::ellipsoid::ellipsoid;
 use crate::fit::Fit;
 use crate::scaling::{scaled, scaled_value};
-use aero_error::{Check, Coefficient};
+use aero_error::AeroError;
 use drag::{check_mach_any, stagnation_ratio};
 use shapes::NoseShape;
 use stoney::{StoneyNose, ValueAndSlope};
@@ -58,17 +58,10 @@ pub enum Transonic {
     },
 }
 
-// What a curve was made for: a step or a bare front face, or a nose or shoulder of a shape.
-#[derive(Clone, Copy)]
-pub enum CurveShape {
-    Step,
-    Of(NoseShape),
-}
-
-// A nose's, shoulder's or step's pressure drag against Mach number, on its increase in area.
+// A nose's, shoulder's or step's pressure drag against Mach number, on its increase in area. A step and a bare front face have no shape.
 #[derive(Clone, Copy)]
 pub struct PressureDragCurve {
-    pub(crate) shape: CurveShape,
+    pub(crate) shape: Option<NoseShape>,
     pub(crate) fineness_ratio: f64,
     pub(crate) rest: f64,
     pub(crate) mach_low: f64,
@@ -219,7 +212,7 @@ impl PressureDragCurve {
         let low = transonic.value_and_slope(mach_low, depth - 1);
         if mach_low == 0.0 {
             PressureDragCurve {
-                shape: CurveShape::Step,
+                shape: None,
                 fineness_ratio: 0.0,
                 rest: low.value,
                 mach_low,
@@ -228,7 +221,7 @@ impl PressureDragCurve {
             }
         } else {
             PressureDragCurve {
-                shape: CurveShape::Step,
+                shape: None,
                 fineness_ratio: 0.0,
                 rest,
                 mach_low,
@@ -258,6 +251,7 @@ impl PressureDragCurve {
     }
 
     // A step up in radius, or a body's bare front face: the blunt cylinder at every Mach number.
+    #[tactic(auto, unfolding(crate::specs::Curves::step_curve))]
     pub fn step() -> PressureDragCurve
         ensures { result ≡ step_curve }
     {
@@ -279,18 +273,17 @@ impl PressureDragCurve {
     }
 
     // The coefficient at `mach`, on the increase in area.
-    pub fn coefficient(self, mach: f64) -> Coefficient
+    #[tactic(auto, unfolding(crate::specs::Curves::coefficient_of, crate::specs::Below::fitted))]
+    pub fn coefficient(self, mach: f64) -> Result<f64, AeroError>
         ensures { result ≡ coefficient_of self mach }
     {
-        if let Check::Failed(refusal) = check_mach_any(mach) {
-            return Coefficient::Refused(refusal);
-        }
+        check_mach_any(mach)?;
         if mach < self.mach_low {
             let fit = self.fit;
             let rise = fit.eval(mach, self.mach_low);
-            return Coefficient::Value(self.rest + rise.value);
+            return Ok(self.rest + rise.value);
         }
         let transonic = self.transonic;
-        Coefficient::Value(transonic.value(mach, DEPTH - 1))
+        Ok(transonic.value(mach, DEPTH - 1))
     }
 }

@@ -4,7 +4,7 @@ ghost use Rattle.nose_drag.specs.Methods.{ellipsoid_low_speed, ellipsoid_at_leas
 
 use crate::cone::blunt;
 use crate::scaling::{fineness_exponent, fineness_scaled, scaled};
-use aero_error::{Check, Coefficient, Quantity, check_dimension, require, then};
+use aero_error::{AeroError, Quantity, check_dimension, require};
 use elementary::max;
 use stoney::{SUBSONIC_MACH_LIMIT, StoneyNose, ValueAndSlope};
 
@@ -20,6 +20,7 @@ const HEMISPHERE_FINENESS: f64 = 0.5;
 const ROUND_HEAD_FINENESS: f64 = 1.0;
 
 // An ellipsoid below Mach 0.8: Hoerner's line from the hemisphere on, held at 0; blunter, eq. B.9's form between the flat face and the hemisphere.
+#[tactic(auto, unfolding(crate::specs::Methods::ellipsoid_low_speed))]
 fn ellipsoid_low_speed(fineness_ratio: f64, mach: f64) -> ValueAndSlope
     ensures { result ≡ ellipsoid_low_speed fineness_ratio mach }
 {
@@ -43,6 +44,7 @@ fn ellipsoid_low_speed(fineness_ratio: f64, mach: f64) -> ValueAndSlope
 }
 
 // The same, or the value at rest where that is more.
+#[tactic(auto, unfolding(crate::specs::Methods::ellipsoid_at_least_rest))]
 fn ellipsoid_at_least_rest(fineness_ratio: f64, rest: f64, mach: f64) -> ValueAndSlope
     ensures { result ≡ ellipsoid_at_least_rest fineness_ratio rest mach }
 {
@@ -58,6 +60,7 @@ fn ellipsoid_at_least_rest(fineness_ratio: f64, rest: f64, mach: f64) -> ValueAn
 }
 
 // Stoney's ellipsoid scaled by eq. B.9.
+#[tactic(auto, unfolding(crate::specs::Methods::ellipsoid_measured))]
 fn ellipsoid_measured(fineness_ratio: f64, mach: f64) -> ValueAndSlope
     ensures { result ≡ ellipsoid_measured fineness_ratio mach }
 {
@@ -66,6 +69,7 @@ fn ellipsoid_measured(fineness_ratio: f64, mach: f64) -> ValueAndSlope
 }
 
 // An ellipsoid at every Mach number: below 0.8, from Stoney's first point on, and a straight line between.
+#[tactic(auto, unfolding(crate::specs::Methods::ellipsoid))]
 pub(crate) fn ellipsoid(fineness_ratio: f64, rest: f64, mach: f64) -> ValueAndSlope
     ensures { result ≡ ellipsoid_of fineness_ratio rest mach }
 {
@@ -86,15 +90,13 @@ pub(crate) fn ellipsoid(fineness_ratio: f64, rest: f64, mach: f64) -> ValueAndSl
 }
 
 // An ellipsoid's measured pressure drag below Mach 0.8.
-pub fn ellipsoid_subsonic_pressure_drag(fineness_ratio: f64, mach: f64) -> Coefficient
+#[tactic(auto, unfolding(crate::specs::Methods::ellipsoid_subsonic_pressure_drag))]
+pub fn ellipsoid_subsonic_pressure_drag(fineness_ratio: f64, mach: f64) -> Result<f64, AeroError>
     ensures { result ≡ ellipsoid_subsonic_pressure_drag fineness_ratio mach }
 {
     let ok = 0.0 <= mach && mach < SUBSONIC_MACH_LIMIT;
-    let fineness = check_dimension(Quantity::EllipsoidFineness, fineness_ratio, false);
-    let check = then(fineness, require(ok, Quantity::EllipsoidMach, mach));
-    if let Check::Failed(refusal) = check {
-        return Coefficient::Refused(refusal);
-    }
+    check_dimension(Quantity::EllipsoidFineness, fineness_ratio, false)?;
+    require(ok, Quantity::EllipsoidMach, mach)?;
     let low = ellipsoid_low_speed(fineness_ratio, mach);
-    Coefficient::Value(low.value)
+    Ok(low.value)
 }

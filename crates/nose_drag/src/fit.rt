@@ -2,7 +2,7 @@
 ghost use Rattle.std.specs.Prelude.{◌≡◌};
 ghost use Rattle.nose_drag.specs.Below.{fit_of, fit_at, below_checked, subsonic_pressure_drag_coefficient};
 
-use aero_error::{Check, Coefficient, Quantity, check_dimension, require, then};
+use aero_error::{AeroError, Quantity, check_dimension, require};
 use elementary::{is_between, is_finite};
 use stoney::ValueAndSlope;
 
@@ -17,6 +17,7 @@ pub enum Fit {
 
 impl Fit {
     // From the rise Δ and the slope at M_L.
+    #[tactic(auto, unfolding(crate::specs::Below::fit_of))]
     pub(crate) fn new(delta: f64, slope: f64, mach_low: f64) -> Fit
         ensures { result ≡ fit_of delta slope mach_low }
     {
@@ -29,6 +30,7 @@ impl Fit {
     }
 
     // The fit's value and slope at `mach`, above the value at rest.
+    #[tactic(auto, unfolding(crate::specs::Below::power_at, crate::specs::Below::quadratic_at))]
     pub(crate) fn eval(self, mach: f64, mach_low: f64) -> ValueAndSlope
         ensures { result ≡ fit_at self mach mach_low }
     {
@@ -59,36 +61,37 @@ impl Fit {
 }
 
 // The tests of eq. 3.87's numbers, in the Rust's order.
-fn check_below(c_rest: f64, c_low: f64, slope_low: f64, mach_low: f64, mach: f64) -> Check
+#[tactic(auto, unfolding(crate::specs::Below::below_checked))]
+fn check_below(
+    c_rest: f64,
+    c_low: f64,
+    slope_low: f64,
+    mach_low: f64,
+    mach: f64,
+) -> Result<(), AeroError>
     ensures { result ≡ below_checked c_rest c_low slope_low mach_low mach }
 {
-    let low = check_dimension(Quantity::TransonicLowerBound, mach_low, false);
-    let at_rest = require(is_finite(c_rest), Quantity::DragAtRest, c_rest);
-    let at_low = require(is_finite(c_low), Quantity::DragAtLowerBound, c_low);
-    let slope = require(is_finite(slope_low), Quantity::SlopeAtLowerBound, slope_low);
-    let below = require(
-        is_between(0.0, mach, mach_low),
-        Quantity::MachBelowLowerBound,
-        mach,
-    );
-    then(low, then(at_rest, then(at_low, then(slope, below))))
+    let below = is_between(0.0, mach, mach_low);
+    check_dimension(Quantity::TransonicLowerBound, mach_low, false)?;
+    require(is_finite(c_rest), Quantity::DragAtRest, c_rest)?;
+    require(is_finite(c_low), Quantity::DragAtLowerBound, c_low)?;
+    require(is_finite(slope_low), Quantity::SlopeAtLowerBound, slope_low)?;
+    require(below, Quantity::MachBelowLowerBound, mach)
 }
 
 // Eq. 3.87 between Mach 0 and M_L, from the value at rest and the value and slope at M_L.
+#[tactic(auto, unfolding(crate::specs::Below::subsonic_pressure_drag_coefficient))]
 pub fn subsonic_pressure_drag_coefficient(
     c_rest: f64,
     c_low: f64,
     slope_low: f64,
     mach_low: f64,
     mach: f64,
-) -> Coefficient
+) -> Result<f64, AeroError>
     ensures { result ≡ subsonic_pressure_drag_coefficient c_rest c_low slope_low mach_low mach }
 {
-    let check = check_below(c_rest, c_low, slope_low, mach_low, mach);
-    if let Check::Failed(refusal) = check {
-        return Coefficient::Refused(refusal);
-    }
+    check_below(c_rest, c_low, slope_low, mach_low, mach)?;
     let fit = Fit::new(c_low - c_rest, slope_low, mach_low);
     let rise = fit.eval(mach, mach_low);
-    Coefficient::Value(c_rest + rise.value)
+    Ok(c_rest + rise.value)
 }

@@ -4,7 +4,7 @@ ghost use Rattle.nose_drag.specs.Methods.{fineness_scaled, fineness_exponent, sc
 ghost use Rattle.nose_drag.specs.Values.{scaled_value};
 
 use crate::cone::blunt;
-use aero_error::{Check, Coefficient, Quantity, check_dimension, then};
+use aero_error::{AeroError, Quantity, check_dimension};
 use drag::stagnation_ratio;
 use elementary::LN_2;
 use stoney::ValueAndSlope;
@@ -27,20 +27,22 @@ pub(crate) fn fineness_scaled(c3: f64, c0: f64, exponent: f64) -> f64
 }
 
 // Eq. B.9: from the drag c3 measured at fineness 3 and the blunt cylinder's c0 to another fineness ratio.
-pub fn fineness_scaled_pressure_drag(c3: f64, c0: f64, fineness_ratio: f64) -> Coefficient
+#[tactic(auto, unfolding(crate::specs::Methods::fineness_scaled_pressure_drag))]
+pub fn fineness_scaled_pressure_drag(
+    c3: f64,
+    c0: f64,
+    fineness_ratio: f64,
+) -> Result<f64, AeroError>
     ensures { result ≡ fineness_scaled_pressure_drag c3 c0 fineness_ratio }
 {
-    let measured = check_dimension(Quantity::FinenessThreeDrag, c3, true);
-    let flat = check_dimension(Quantity::BluntDrag, c0, false);
-    let fineness = check_dimension(Quantity::Fineness, fineness_ratio, true);
-    let check = then(measured, then(flat, fineness));
-    if let Check::Failed(refusal) = check {
-        return Coefficient::Refused(refusal);
-    }
-    Coefficient::Value(fineness_scaled(c3, c0, fineness_exponent(fineness_ratio)))
+    check_dimension(Quantity::FinenessThreeDrag, c3, true)?;
+    check_dimension(Quantity::BluntDrag, c0, false)?;
+    check_dimension(Quantity::Fineness, fineness_ratio, true)?;
+    Ok(fineness_scaled(c3, c0, fineness_exponent(fineness_ratio)))
 }
 
 // Two references' values interpolated by the weight of the upper one, and scaled by eq. B.9.
+#[tactic(auto, unfolding(crate::specs::Methods::scaled))]
 pub(crate) fn scaled(
     lo: ValueAndSlope,
     hi: ValueAndSlope,
@@ -67,6 +69,7 @@ pub(crate) fn scaled(
 }
 
 // The same where the slope isn't asked.
+#[tactic(auto, unfolding(crate::specs::Values::scaled_value))]
 pub(crate) fn scaled_value(lo: f64, hi: f64, weight: f64, exponent: f64, mach: f64) -> f64
     ensures { result ≡ scaled_value lo hi weight exponent mach }
 {

@@ -1,0 +1,2 @@
+-- What answers to a `?` cite.
+pub mod HandedOn
