@@ -41,6 +41,11 @@ unfoldable pub up_to : ℕ → (ℕ → Check) → Check
 up_to zero test = Ok tt
 up_to (suc n) test = up_to n test then test n
 
+-- Rust's `?` for an answer of any type, with what it is where the check fails
+abbrev pub after : {A : Type 0} → (AeroError → A) → Check → A → A
+after refused (Ok tt) answer = answer
+after refused (Err refusal) answer = refused refusal
+
 -- `check?; answer`
 abbrev pub ◌and_then◌ : {A : Type 0} → Check → Result A AeroError → Result A AeroError
 Ok tt and_then answer = answer

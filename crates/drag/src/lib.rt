@@ -30,7 +30,6 @@ pub fn check_mach_any(mach: f64) -> Result<(), AeroError>
 }
 
 // The first bad Mach number's refusal.
-#[tactic(auto, unfolding(crate::specs::Friction::machs_test))]
 pub fn check_machs(machs: &[f64]) -> Result<(), AeroError>
     ensures { result ≡ machs_test machs.now }
 {
@@ -52,7 +51,7 @@ pub fn check_flow(mach: f64, reynolds: f64) -> Result<(), AeroError>
 
 // What a roughness alone decides of the friction: the critical Reynolds number (eq. 3.79), from which on it limits the friction, and
 // the friction that it limits (eq. 3.80). Worked out once, it serves every Reynolds and Mach number.
-#[derive(Clone, Copy)]
+#[derive(Clone, Copy, Debug, PartialEq)]
 pub struct Wall {
     pub critical: Result<f64, AeroError>,
     pub limited: f64,
@@ -60,7 +59,7 @@ pub struct Wall {
 
 // What a Mach and a Reynolds number alone decide of the friction (eq. 3.82 to 3.84), below Mach 1 and from there on: the turbulent
 // friction, and the factor that corrects a limited one. Worked out once, it serves every wall.
-#[derive(Clone, Copy)]
+#[derive(Clone, Copy, Debug, PartialEq)]
 pub enum Flow {
     Subsonic {
         reynolds: f64,

@@ -5,7 +5,7 @@
 ghost use Rattle.std.specs.Prelude.{◌≡◌};
 ghost use Rattle.shapes.specs.Numbers.{number_of_shape, shape_of, parameter_of, von_karman, lv_haack};
 
-#[derive(Clone, Copy)]
+#[derive(Clone, Copy, Debug, PartialEq)]
 pub enum NoseShape {
     // A straight cone.
     Conical,

@@ -1,4 +1,6 @@
 -- What passed tests have shown of numbers in a house interval: "in [0, 1]" a part's own roughness, given or held at any place; "[0, 100]" a nozzle diameter held.
+use Rattle.std.specs.Prelude.{Ok, Err, Some, Option}
+use Rattle.aero_error.specs.Checks.{Check}
 use mathlib.Core.Path.{◌≡◌, refl}
 use mathlib.Core.Bool.{Bool, true, false, cond}
 use mathlib.Core.List.{List}
@@ -11,28 +13,24 @@ use Rattle.elementary.specs.Constants.{0·0, 1·0}
 use Rattle.drag.specs.Constants.{10000·0}
 use Rattle.aero_error.specs.declared.AeroError.TheVariants.{Broken}
 use Rattle.aero_error.specs.declared.Rule.TheVariants.{OutsideInterval}
-use Rattle.aero_error.specs.declared.Check.{Check}
-use Rattle.aero_error.specs.declared.Check.TheVariants.{Passed, Failed}
 use Rattle.aero_error.specs.CheckLaws.{both_passed, up_each}
-use Rattle.sheet_data.specs.declared.PartRoughness.{PartRoughness}
-use Rattle.sheet_data.specs.declared.PartRoughness.TheVariants.{Own}
 use Rattle.sheet_data.specs.declared.Part.{Part}
 use Rattle.sheet_data.specs.Contents.{Contents, part_at}
 use Rattle.sheet_data.specs.Tests.{100·0, in_interval, own_test, settings_test, nozzle_test, part_test, parts_test, sheet_test}
 use Rattle.sheet_data.proofs.Order.{nozzle_before_parts}
 
-pub inside : (low x high : Float) → in_interval low x high ≡ Passed → between low x high ≡ true
+pub inside : (low x high : Float) → in_interval low x high ≡ Ok tt → between low x high ≡ true
 inside low x high h = by_test (between low x high) h
   where
-    by_test : (ok : Bool) → cond ok Passed (Failed (Broken OutsideInterval)) ≡ Passed → ok ≡ true
+    by_test : (ok : Bool) → ◌≡◌ {A = Check} (cond ok (Ok tt) (Err (Broken OutsideInterval))) (Ok tt) → ok ≡ true
     by_test true e = refl
     by_test false e = let z : ◌≡◌ {A = ℕ} 0 1 = cc in absurd (omega arith)
 
-own_inside : (k : PartRoughness) (x : Float) → own_test k ≡ Passed → k ≡ Own x → between 0·0 x 1·0 ≡ true
+own_inside : (k : Option Float) (x : Float) → own_test k ≡ Ok tt → k ≡ Some x → between 0·0 x 1·0 ≡ true
 own_inside k x h e = inside 0·0 x 1·0 (rw e at h)
 
 -- of a part
-pub given_own : (p : Part) (x : Float) → part_test p ≡ Passed → p.roughness ≡ Own x → between 0·0 x 1·0 ≡ true
+pub given_own : (p : Part) (x : Float) → part_test p ≡ Ok tt → p.roughness ≡ Some x → between 0·0 x 1·0 ≡ true
 given_own p x h e =
     let a = both_passed (in_interval 0·0 p.length 100·0) _ h in
     let b = both_passed (in_interval 0·0 p.aft_diameter 100·0) _ a.second in
@@ -40,15 +38,15 @@ given_own p x h e =
     own_inside p.roughness x d.second e
 
 -- of every part held
-pub held_own : (ps : List Part) (i : ℕ) (x : Float) → parts_test ps ≡ Passed → i < length ps → (part_at ps i).roughness ≡ Own x → between 0·0 x 1·0 ≡ true
+pub held_own : (ps : List Part) (i : ℕ) (x : Float) → parts_test ps ≡ Ok tt → i < length ps → (part_at ps i).roughness ≡ Some x → between 0·0 x 1·0 ≡ true
 unfolding parts_test
 held_own ps i x h l e = given_own (part_at ps i) x (up_each _ (length ps) h i l) e
 
 -- "An n outside [0, 100], NaN too, is refusal 11": of a nozzle diameter held
-pub held_nozzle : (c : Contents) (cells count : ℕ) → sheet_test c cells count ≡ Passed → between 0·0 c.nozzle 100·0 ≡ true
+pub held_nozzle : (c : Contents) (cells count : ℕ) → sheet_test c cells count ≡ Ok tt → between 0·0 c.nozzle 100·0 ≡ true
 unfolding sheet_test
 held_nozzle c cells count h = inside 0·0 c.nozzle 100·0 (by (nozzle_test c.nozzle) refl)
   where
-    by : (test : Check) → nozzle_test c.nozzle ≡ test → nozzle_test c.nozzle ≡ Passed
-    by Passed p = p
-    by (Failed e) p = let f = nozzle_before_parts c cells count e (both_passed (settings_test c.settings cells) _ h).first p in let z : ◌≡◌ {A = ℕ} 0 1 = cc in absurd (omega arith)
+    by : (test : Check) → nozzle_test c.nozzle ≡ test → nozzle_test c.nozzle ≡ Ok tt
+    by (Ok tt) p = p
+    by (Err e) p = let f = nozzle_before_parts c cells count e (both_passed (settings_test c.settings cells) _ h).first p in let z : ◌≡◌ {A = ℕ} 0 1 = cc in absurd (omega arith)

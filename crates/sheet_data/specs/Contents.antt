@@ -1,12 +1,11 @@
 -- What a sheet holds: the settings with their columns, the parts in order, and the nozzle diameter. This is all that docs/REFERENCE.md's hand copy keeps, and all that the rows are
 -- made from; what stands past a count in an array is not in it.
-use Rattle.std.specs.Prelude.{◌≡◌, List, ℕ, zero, suc, ◌≤◌, ◌<◌, take, get_or, replicate, Float}
+use Rattle.std.specs.Prelude.{◌≡◌, List, ℕ, zero, suc, ◌≤◌, ◌<◌, take, get_or, replicate, Float, None}
 use Rattle.std.proofs.Common.{get_or-take}
 use Rattle.std.specs.Float.{nan}
 use Rattle.elementary.specs.Constants.{0·0}
 use Rattle.shapes.specs.declared.NoseShape.TheVariants.{Conical}
 use Rattle.sheet_data.specs.declared.Settings.{Settings}
-use Rattle.sheet_data.specs.declared.PartRoughness.TheVariants.{OfSettings}
 use Rattle.sheet_data.specs.declared.Part.{Part}
 use Rattle.sheet_data.specs.declared.Design.{Design}
 use Rattle.sheet_data.specs.declared.Sheet.{Sheet}
@@ -26,7 +25,7 @@ contents_of sheet = record { settings = sheet.settings; parts = parts_of sheet.d
 
 -- what stands in a place that was never filled
 abbrev pub empty_part : Part
-empty_part = record { shape = Conical; length = 0·0; aft_diameter = 0·0; joint_angle = 0·0; wetted_ratio = 0·0; roughness = OfSettings }
+empty_part = record { shape = Conical; length = 0·0; aft_diameter = 0·0; joint_angle = 0·0; wetted_ratio = 0·0; roughness = None }
 
 -- a sheet with no parts: "open starts coasting"
 abbrev pub blank : Settings → Sheet
@@ -34,7 +33,7 @@ blank s = record { settings = s; design = record { count = 0; parts = replicate 
 
 -- what a read past the last part would give; nothing looks there
 abbrev pub no_part : Part
-no_part = record { shape = Conical; length = nan; aft_diameter = nan; joint_angle = nan; wetted_ratio = nan; roughness = OfSettings }
+no_part = record { shape = Conical; length = nan; aft_diameter = nan; joint_angle = nan; wetted_ratio = nan; roughness = None }
 
 -- the part at a place
 abbrev pub part_at : List Part → ℕ → Part

@@ -1,6 +1,7 @@
 -- What a call tests of the sheet that it is given, in the order of docs/REFERENCE.md, Order of tests, with each refusal's number, code and value. The first
 -- test that fails is the refusal.
-use Rattle.std.specs.Prelude.{◌≡◌, refl, false, cond, List, [], ◌∷◌, map, ℕ, length, ltb, Float}
+use Rattle.std.specs.Prelude.{◌≡◌, refl, false, cond, List, [], ◌∷◌, map, ℕ, length, ltb, Float, Ok, Err, Some, Option, None}
+use Rattle.aero_error.specs.Checks.{◌then◌, unless, up_to, required, dimension, Check}
 use Rattle.std.specs.Float.Ieee.{round, of_bits}
 use Rattle.elementary.specs.Arithmetic.{bits}
 use Rattle.elementary.specs.Tests.{between}
@@ -9,13 +10,8 @@ use Rattle.drag.specs.Constants.{10000·0}
 use Rattle.aero_error.specs.declared.AeroError.TheVariants.{Broken}
 use Rattle.aero_error.specs.declared.Rule.TheVariants.{TooManyColumns, DesignFull, TooFewCells, OutsideInterval}
 use Rattle.aero_error.specs.declared.Quantity.TheVariants.{BodyFineness}
-use Rattle.aero_error.specs.declared.Check.{Check}
-use Rattle.aero_error.specs.declared.Check.TheVariants.{Passed, Failed}
-use Rattle.aero_error.specs.Checks.{◌then◌, unless, up_to, required, dimension}
 use Rattle.drag.specs.Friction.{flow_checked}
 use Rattle.sheet_data.specs.declared.Settings.{Settings}
-use Rattle.sheet_data.specs.declared.PartRoughness.{PartRoughness}
-use Rattle.sheet_data.specs.declared.PartRoughness.TheVariants.{OfSettings, Own}
 use Rattle.sheet_data.specs.declared.Part.{Part}
 use Rattle.sheet_data.specs.Layout.{most_parts, most_columns, needed}
 use Rattle.sheet_data.specs.Contents.{Contents, part_at, mach_at, reynolds_at}
@@ -37,7 +33,7 @@ constants_nearest = refl
 
 -- 11: outside a house interval, NaN too
 abbrev pub in_interval : Float → Float → Float → Check
-in_interval low x high = cond (between low x high) Passed (Failed (Broken OutsideInterval))
+in_interval low x high = cond (between low x high) (Ok tt) (Err (Broken OutsideInterval))
 
 -- "1 for each column (M, R)"
 unfoldable pub columns_test : Settings → Check
@@ -63,9 +59,9 @@ abbrev pub nozzle_test : Float → Check
 nozzle_test n = in_interval 0·0 n 100·0
 
 -- a roughness of a part's own: "in [0, 1]"
-abbrev pub own_test : PartRoughness → Check
-own_test OfSettings = Passed
-own_test (Own x) = in_interval 0·0 x 1·0
+abbrev pub own_test : Option Float → Check
+own_test None = Ok tt
+own_test (Some x) = in_interval 0·0 x 1·0
 
 -- "11 for L, d, w", and "checked after w" the roughness
 abbrev pub part_test : Part → Check

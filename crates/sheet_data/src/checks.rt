@@ -6,8 +6,8 @@ ghost use Rattle.sheet_data.specs.Contents.{parts_of, contents_of};
 ghost use Rattle.sheet_data.specs.Tests.{in_interval, own_test, columns_test, body_test, settings_test, nozzle_test, part_test, parts_test, sheet_test};
 
 use crate::layout::{COLUMNS, PARTS, rows};
-use crate::{Design, Part, PartRoughness, Settings, Sheet};
-use aero_error::{AeroError, Check, Quantity, Rule, then, unless};
+use crate::{Design, Part, Settings, Sheet};
+use aero_error::{AeroError, Quantity, Rule, unless};
 
 // The ends of the house intervals, each interval with both ends in it.
 pub const LEAST_REFERENCE: f64 = 0.001;
@@ -18,132 +18,90 @@ pub const MOST_ROUGHNESS: f64 = 1.0;
 
 pub const MOST_WETTED: f64 = 10000.0;
 
-fn in_interval(low: f64, x: f64, high: f64) -> Check
+fn in_interval(low: f64, x: f64, high: f64) -> Result<(), AeroError>
     ensures { result ≡ in_interval low x high }
 {
-    if elementary::is_between(low, x, high) {
-        Check::Passed
-    } else {
-        Check::Failed(AeroError::Broken(Rule::OutsideInterval))
-    }
+    unless(!elementary::is_between(low, x, high), Rule::OutsideInterval)
 }
 
-fn check_columns(settings: Settings) -> Check
+fn check_columns(settings: Settings) -> Result<(), AeroError>
     requires { settings.count ≤ most_columns }
     ensures { result ≡ columns_test settings }
 {
-    let count = settings.count;
-    let machs = settings.machs;
-    let reynolds = settings.reynolds;
-    let mut i = 0usize;
-    while i < count {
-        let check = drag::check_flow(machs[i], reynolds[i]);
-        let Check::Passed = check else {
-            return check;
-        };
-        i += 1;
+    for i in 0..settings.count {
+        drag::check_flow(settings.machs[i], settings.reynolds[i])?;
     }
-    Check::Passed
+    Ok(())
 }
 
 // D, the roughness and B.
-fn check_body(settings: Settings) -> Check
+fn check_body(settings: Settings) -> Result<(), AeroError>
     ensures { result ≡ body_test settings }
 {
-    let fineness = settings.body_fineness;
-    then(
-        in_interval(LEAST_REFERENCE, settings.reference_diameter, MOST_LENGTH),
-        then(
-            in_interval(0.0, settings.roughness, MOST_ROUGHNESS),
-            aero_error::check_dimension(Quantity::BodyFineness, fineness, false),
-        ),
-    )
+    in_interval(LEAST_REFERENCE, settings.reference_diameter, MOST_LENGTH)?;
+    in_interval(0.0, settings.roughness, MOST_ROUGHNESS)?;
+    aero_error::check_dimension(Quantity::BodyFineness, settings.body_fineness, false)
 }
 
 // The settings of a sheet for which `cells` cells are lent.
-pub fn check_settings(settings: Settings, cells: usize) -> Check
+#[tactic(auto, unfolding(crate::specs::Tests::settings_test))]
+pub fn check_settings(settings: Settings, cells: usize) -> Result<(), AeroError>
     ensures { result ≡ settings_test settings cells }
 {
     let count = settings.count;
     if COLUMNS < count {
-        return Check::Failed(AeroError::Broken(Rule::TooManyColumns));
+        return Err(AeroError::Broken(Rule::TooManyColumns));
     }
-    then(
-        check_body(settings),
-        then(
-            check_columns(settings),
-            unless(cells < rows() * count, Rule::TooFewCells),
-        ),
-    )
+    check_body(settings)?;
+    check_columns(settings)?;
+    unless(cells < rows() * count, Rule::TooFewCells)
 }
 
 // A nozzle diameter, held or given.
-pub fn check_nozzle(nozzle_diameter: f64) -> Check
+pub fn check_nozzle(nozzle_diameter: f64) -> Result<(), AeroError>
     ensures { result ≡ nozzle_test nozzle_diameter }
 {
     in_interval(0.0, nozzle_diameter, MOST_LENGTH)
 }
 
 // A roughness of a part's own.
-fn check_own(roughness: PartRoughness) -> Check
+fn check_own(roughness: Option<f64>) -> Result<(), AeroError>
     ensures { result ≡ own_test roughness }
 {
     match roughness {
-        PartRoughness::OfSettings => Check::Passed,
-        PartRoughness::Own(x) => in_interval(0.0, x, MOST_ROUGHNESS),
+        None => Ok(()),
+        Some(x) => in_interval(0.0, x, MOST_ROUGHNESS),
     }
 }
 
-pub fn check_part(part: Part) -> Check
+pub fn check_part(part: Part) -> Result<(), AeroError>
     ensures { result ≡ part_test part }
 {
-    let roughness = part.roughness;
-    then(
-        in_interval(0.0, part.length, MOST_LENGTH),
-        then(
-            in_interval(0.0, part.aft_diameter, MOST_LENGTH),
-            then(
-                in_interval(0.0, part.wetted_ratio, MOST_WETTED),
-                check_own(roughness),
-            ),
-        ),
-    )
+    in_interval(0.0, part.length, MOST_LENGTH)?;
+    in_interval(0.0, part.aft_diameter, MOST_LENGTH)?;
+    in_interval(0.0, part.wetted_ratio, MOST_WETTED)?;
+    check_own(part.roughness)
 }
 
-fn check_parts(design: Design) -> Check
+fn check_parts(design: Design) -> Result<(), AeroError>
     requires { design.count ≤ most_parts }
     ensures { result ≡ parts_test (parts_of design) }
 {
-    let count = design.count;
-    let parts = design.parts;
-    let mut place = 0usize;
-    while place < count {
-        let part = parts[place];
-        let check = check_part(part);
-        let Check::Passed = check else {
-            return check;
-        };
-        place += 1;
+    for part in &design.parts[..design.count] {
+        check_part(*part)?;
     }
-    Check::Passed
+    Ok(())
 }
 
 // The sheet that a call is given, with `cells` cells lent.
-pub fn check_sheet(sheet: Sheet, cells: usize) -> Check
+#[tactic(auto, unfolding(crate::specs::Tests::sheet_test))]
+pub fn check_sheet(sheet: Sheet, cells: usize) -> Result<(), AeroError>
     ensures { result ≡ sheet_test (contents_of sheet) cells sheet.design.count }
 {
-    let settings = sheet.settings;
-    let design = sheet.design;
-    let count = design.count;
-    let check = then(
-        check_settings(settings, cells),
-        check_nozzle(sheet.nozzle_diameter),
-    );
-    let Check::Passed = check else {
-        return check;
-    };
-    if PARTS < count {
-        return Check::Failed(AeroError::Broken(Rule::DesignFull));
+    check_settings(sheet.settings, cells)?;
+    check_nozzle(sheet.nozzle_diameter)?;
+    if PARTS < sheet.design.count {
+        return Err(AeroError::Broken(Rule::DesignFull));
     }
-    check_parts(design)
+    check_parts(sheet.design)
 }

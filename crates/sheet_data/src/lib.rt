@@ -14,7 +14,7 @@ use shapes::NoseShape;
 
 // The reference diameter D, the roughness, the body fineness B, and `count` columns of a Mach and a
 // Reynolds number.
-#[derive(Clone, Copy)]
+#[derive(Clone, Copy, Debug, PartialEq)]
 pub struct Settings {
     pub reference_diameter: f64,
     pub roughness: f64,
@@ -24,33 +24,26 @@ pub struct Settings {
     pub reynolds: [f64; COLUMNS],
 }
 
-// The roughness of a part: the settings' one, or one of its own.
-#[derive(Clone, Copy)]
-pub enum PartRoughness {
-    OfSettings,
-    Own(f64),
-}
-
-// A part: its shape, length L, aft diameter d, joint angle, wetted ratio w and roughness.
-#[derive(Clone, Copy)]
+// A part: its shape, length L, aft diameter d, joint angle, wetted ratio w, and a roughness of its own, where it hasn't the settings' one.
+#[derive(Clone, Copy, Debug, PartialEq)]
 pub struct Part {
     pub shape: NoseShape,
     pub length: f64,
     pub aft_diameter: f64,
     pub joint_angle: f64,
     pub wetted_ratio: f64,
-    pub roughness: PartRoughness,
+    pub roughness: Option<f64>,
 }
 
 // `count` parts in places 0, 1, ..
-#[derive(Clone, Copy)]
+#[derive(Clone, Copy, Debug, PartialEq)]
 pub struct Design {
     pub count: usize,
     pub parts: [Part; PARTS],
 }
 
 // A sheet: the settings, the design that is looked at under them, and the nozzle diameter n, 0 when coasting.
-#[derive(Clone, Copy)]
+#[derive(Clone, Copy, Debug, PartialEq)]
 pub struct Sheet {
     pub settings: Settings,
     pub design: Design,
@@ -68,7 +61,7 @@ impl Part {
             aft_diameter: 0.0,
             joint_angle: 0.0,
             wetted_ratio: 0.0,
-            roughness: PartRoughness::OfSettings,
+            roughness: None,
         }
     }
 }

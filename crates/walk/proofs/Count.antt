@@ -1,5 +1,6 @@
 -- The count of a walk. For every nose and list: each time that a query is set against a point it leaves that point behind for good, or ends, so that the count is
 -- at most queries plus points (`count_most`). For accepted queries: which points and queries those are (`cost_is`).
+use Rattle.std.specs.Prelude.{Ok}
 use mathlib.Core.Path.{◌≡◌, refl, sym, ap, ◌∙◌, subst}
 use mathlib.Core.Bool.{Bool, true, false, cond}
 use mathlib.Core.List.{List, [], ◌∷◌}
@@ -10,7 +11,6 @@ use native.Mathlib.Omega.{arith}
 use lib.Dec.{T}
 use lib.ListN.{length}
 use lib.Ieee.{Float}
-use Rattle.aero_error.specs.declared.Check.TheVariants.{Passed}
 use Rattle.stoney.specs.declared.StoneyNose.{StoneyNose}
 use Rattle.stoney.specs.Points.{Point, points, range_of, range_within, rises, tail_rises}
 use Rattle.stoney.proofs.Rises.{nose_rises}
@@ -142,7 +142,7 @@ whole [] t h M Ms r = absurd (not-suc-le-zero h)
 whole (p ∷ ps) t h M Ms r = let all = from_stand p ps t (record { passed = none; ahead = p ∷ ps }) M Ms (at_start (p ∷ ps) (M ∷ Ms)) r in omega (arith, all)
 
 -- "the number of times a query was set against a table point", told without the walk
-pub cost_is : (nose : StoneyNose) (Ms : List Float) (cells : ℕ) → flight_test Ms cells ≡ Passed → count_of nose Ms ≡ cost_of nose Ms
+pub cost_is : (nose : StoneyNose) (Ms : List Float) (cells : ℕ) → flight_test Ms cells ≡ Ok tt → count_of nose Ms ≡ cost_of nose Ms
 unfolding walk_of walk_from
 cost_is nose [] cells h = refl
 cost_is nose (M ∷ Ms) cells h = whole (points nose) (nose_rises nose) (omega (arith, count_is nose, (range_within nose).0)) M Ms (accepted_rise (M ∷ Ms) cells h)

@@ -1,5 +1,6 @@
 -- The walk as told and the single lookup agree. A walk that goes on from an earlier query's end comes to the same end as one from the first point, since the points
 -- passed are at or below every later query (`goes_on`); and at its end stands the segment that the single lookup takes (`looked_up`).
+use Rattle.std.specs.Prelude.{Ok}
 use mathlib.Core.Path.{◌≡◌, refl, sym, ap, subst}
 use mathlib.Core.Bool.{Bool, true, false}
 use mathlib.Core.List.{List, [], ◌∷◌, map}
@@ -15,7 +16,6 @@ use lib.Ieee.Scale.{finite}
 use Rattle.elementary.specs.Arithmetic.{◌≺◌}
 use Rattle.elementary.specs.Order.{not_above, le_through}
 use Rattle.elementary.proofs.Ranges.{reaches, positive_from}
-use Rattle.aero_error.specs.declared.Check.TheVariants.{Passed}
 use Rattle.aero_error.specs.Checks.{unless}
 use Rattle.aero_error.specs.CheckLaws.{both_passed, up_each, unless_passed}
 use Rattle.aero_error.specs.declared.Rule.TheVariants.{FallingMach}
@@ -96,7 +96,7 @@ pub record Rising (Ms : List Float) : Type 0 where
 pub rest_rising : (M : Float) (Ms : List Float) → Rising (M ∷ Ms) → Rising Ms
 rest_rising M Ms r = record { good = λ k h. r.good (suc k) (omega arith); later = λ k h. r.later (suc k) (omega arith) }
 
-pub accepted_rise : (Ms : List Float) (cells : ℕ) → flight_test Ms cells ≡ Passed → Rising Ms
+pub accepted_rise : (Ms : List Float) (cells : ℕ) → flight_test Ms cells ≡ Ok tt → Rising Ms
 unfolding machs_test rising_test
 accepted_rise Ms cells h =
     let b = both_passed (given_test Ms cells) (rising_test Ms) h in
@@ -128,6 +128,6 @@ module _ (ps : List Point) (t : T (rises ps)) where
       (ap (λ (vs : List Float). (read_at (leg none ps M).ends M).value ∷ vs) (all_agree (leg none ps M).ends Ms (caught ps t M Ms r) (rest_rising M Ms r)))
 
 -- Accepted queries: the walk's values are the single lookup's.
-pub agree : (nose : StoneyNose) (Ms : List Float) (cells : ℕ) → flight_test Ms cells ≡ Passed → (walk_of nose Ms).values ≡ values_of nose Ms
+pub agree : (nose : StoneyNose) (Ms : List Float) (cells : ℕ) → flight_test Ms cells ≡ Ok tt → (walk_of nose Ms).values ≡ values_of nose Ms
 unfolding walk_of value_and_slope
 agree nose Ms cells h = all_agree (points nose) (nose_rises nose) (start nose) Ms (at_start (points nose) Ms) (accepted_rise Ms cells h)

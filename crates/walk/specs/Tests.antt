@@ -1,11 +1,10 @@
 -- What the queries of a flight have to pass, in this order: 10 for too many of them or too few answer cells, 1 for the first bad Mach of all, 16 for a Mach
 -- below its forerunner.
+use Rattle.aero_error.specs.Checks.{◌then◌, unless, up_to, Check}
 use Rattle.std.specs.Prelude.{List, ℕ, suc, ◌-◌, ltb, length, get_or, Float}
 use Rattle.std.specs.Float.{nan}
 use Rattle.elementary.specs.Arithmetic.{◌≺◌}
-use Rattle.aero_error.specs.declared.Check.{Check}
 use Rattle.aero_error.specs.declared.Rule.TheVariants.{TooFewCells, FallingMach}
-use Rattle.aero_error.specs.Checks.{◌then◌, unless, up_to}
 use Rattle.drag.specs.Friction.{machs_test}
 
 -- "up to 256 Machs"

@@ -7,21 +7,14 @@ ghost use Rattle.std.specs.Prelude.{◌≡◌, ◌≤◌, length};
 ghost use Rattle.stoney.specs.Stored.{Stored};
 ghost use Rattle.walk.specs.Tests.{given_test, rising_test, most_queries};
 ghost use Rattle.walk.specs.Walk.{read_at, walk_from, walk_of};
-ghost use Rattle.walk.specs.Answers.{walked_as, Answered};
+ghost use Rattle.walk.specs.Answers.{Answered};
 ghost use Rattle.walk.specs.Places.{stand_at, LegMade, WalkMade};
 
-use aero_error::{AeroError, Check, Rule, then, unless};
+use aero_error::{AeroError, Rule, unless};
 use stoney::{DRAG, MACH, POINTS, StoneyNose};
 
 // The most Mach numbers of one flight.
 pub const QUERIES: usize = 256;
-
-// The answer: how many times a query was set against a point, or the refusal.
-#[derive(Clone, Copy)]
-pub enum Walked {
-    Compared(usize),
-    Refused(AeroError),
-}
 
 // Where a query ends: how many points are passed then, and how many times it was set against one.
 #[derive(Clone, Copy)]
@@ -31,32 +24,23 @@ struct QueryEnd {
 }
 
 // Room for the queries and their answers, then every Mach number by itself.
-fn check_given(machs: &[f64], cells: usize) -> Check
+fn check_given(machs: &[f64], cells: usize) -> Result<(), AeroError>
     ensures { result ≡ given_test machs.now cells }
 {
     let count = machs.len();
-    let room = then(
-        unless(QUERIES < count, Rule::TooFewCells),
-        unless(cells < count, Rule::TooFewCells),
-    );
-    let Check::Passed = room else {
-        return room;
-    };
+    unless(QUERIES < count, Rule::TooFewCells)?;
+    unless(cells < count, Rule::TooFewCells)?;
     drag::check_machs(machs)
 }
 
 // No Mach number is below its forerunner.
-fn check_rising(machs: &[f64]) -> Check
+fn check_rising(machs: &[f64]) -> Result<(), AeroError>
     ensures { result ≡ rising_test machs.now }
 {
-    let mut i = 0usize;
-    while i + 1 < machs.len() {
-        if machs[i + 1] < machs[i] {
-            return Check::Failed(AeroError::Broken(Rule::FallingMach));
-        }
-        i += 1;
+    for i in 1..machs.len() {
+        unless(machs[i] < machs[i - 1], Rule::FallingMach)?;
     }
-    Check::Passed
+    Ok(())
 }
 
 // One query, from where the one before ended: it is set against the current point and moves one on while that point is at or below it.
@@ -139,26 +123,11 @@ fn walk_table(nose: StoneyNose, queries: &[f64], answers: &mut [f64]) -> usize
     walk_points(&machs, &drags, range.first, range.count, queries, answers)
 }
 
-// The count where the tests have passed, or their refusal.
-fn counted(check: Check, compared: usize) -> Walked
-    ensures { result ≡ walked_as check compared }
-{
-    match check {
-        Check::Passed => Walked::Compared(compared),
-        Check::Failed(e) => Walked::Refused(e),
-    }
-}
-
-// The nose's value at each of these Mach numbers, into the first answers.
-pub fn values(nose: StoneyNose, machs: &[f64], answers: &mut [f64]) -> Walked
+// The nose's value at each of these Mach numbers, into the first answers, and how many times a query was set against a point.
+pub fn values(nose: StoneyNose, machs: &[f64], answers: &mut [f64]) -> Result<usize, AeroError>
     ensures { Answered nose machs.now answers.old result answers.new }
 {
-    let given = check_given(machs, answers.len());
-    let rising = check_rising(machs);
-    let check = then(given, rising);
-    let Check::Passed = check else {
-        return counted(check, 0);
-    };
-    let compared = walk_table(nose, machs, answers);
-    counted(check, compared)
+    check_given(machs, answers.len())?;
+    check_rising(machs)?;
+    Ok(walk_table(nose, machs, answers))
 }

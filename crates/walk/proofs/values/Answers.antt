@@ -1,5 +1,8 @@
 -- `values` meets its contract: a failed test is the answer, and what is written once all have passed is the walk's, whose values are the single lookup's.
-use mathlib.Core.Path.{◌≡◌, sym, ap, ◌∙◌}
+use Rattle.std.specs.Prelude.{Ok, Err}
+use Rattle.aero_error.specs.Checks.{◌then◌, unless, Check}
+use Rattle.walk.specs.Answers.{Walked}
+use mathlib.Core.Path.{◌≡◌, refl, ap, ◌∙◌}
 use mathlib.Core.List.{List, ◌++◌}
 use Prim.Native.Nat.{ℕ, ◌+◌, ◌≤◌}
 use native.Mathlib.Omega.{arith}
@@ -9,25 +12,19 @@ use lib.ListN.{length, drop, length-map}
 use lib.Seq.{sets, sets-eq}
 use lib.Ieee.{Float}
 use Rattle.aero_error.specs.declared.AeroError.{AeroError}
-use Rattle.aero_error.specs.declared.Check.{Check}
-use Rattle.aero_error.specs.declared.Check.TheVariants.{Passed, Failed}
 use Rattle.aero_error.specs.declared.Rule.TheVariants.{TooFewCells}
-use Rattle.aero_error.specs.Checks.{◌then◌, unless}
 use Rattle.aero_error.specs.CheckLaws.{both_passed, unless_passed}
 use Rattle.drag.specs.Friction.{machs_test}
 use Rattle.stoney.specs.declared.StoneyNose.{StoneyNose}
-use Rattle.walk.specs.declared.Walked.{Walked}
 use Rattle.walk.specs.Tests.{most_queries, room_test, given_test, rising_test, flight_test}
 use Rattle.walk.specs.Walk.{walk_of}
-use Rattle.walk.specs.Answers.{walked_as, count_of, values_of, Answered}
+use Rattle.aero_error.proofs.HandedOn.{handed_on}
+use Rattle.walk.specs.Answers.{count_of, values_of, Answered}
 use Rattle.walk.proofs.SingleLookup.{agree}
 use Rattle.walk.proofs.values.Goals as goal
-use Rattle.walk.proofs.values.Goals.{After-then-check}
+use Rattle.walk.proofs.values.Goals.{In_ok-check_rising}
 
-tested : (Ms : List Float) (cells : ℕ) (given rising check : Check) → given ≡ given_test Ms cells → rising ≡ rising_test Ms → check ≡ (given then rising) → check ≡ flight_test Ms cells
-tested Ms cells given rising check g r e = e ∙ rw (g, r)
-
-room : (Ms : List Float) (cells : ℕ) → flight_test Ms cells ≡ Passed → (length Ms ≤ cells) × (length Ms ≤ most_queries)
+room : (Ms : List Float) (cells : ℕ) → flight_test Ms cells ≡ Ok tt → (length Ms ≤ cells) × (length Ms ≤ most_queries)
 room Ms cells h =
     let few = unless (ltb most_queries (length Ms)) TooFewCells in
     let lent = unless (ltb cells (length Ms)) TooFewCells in
@@ -38,33 +35,36 @@ room Ms cells h =
 front : (vs : List Float) (n : ℕ) (xs : List Float) → length vs ≡ n → n ≤ length xs → sets xs 0 vs ≡ vs ++ drop n xs
 front vs n xs e h = let k : 0 + length vs ≡ n = omega arith in sets-eq vs xs 0 (omega arith) ∙ ap (λ (m : ℕ). vs ++ drop m xs) k
 
-module _ (nose : StoneyNose) (Ms xs : List Float) (check : Check) (is : check ≡ flight_test Ms (length xs)) where
-  refused : (r : Walked) (e : AeroError) → check ≡ Failed e → r ≡ walked_as check 0 → Answered nose Ms xs r xs
-  refused r e failed answer = record { answer = rw (← is, failed) (answer ∙ rw failed); cells = rw (← is, failed) }
+module _ (nose : StoneyNose) (Ms xs : List Float) where
+  refused : (r : Walked) (e : AeroError) → flight_test Ms (length xs) ≡ Err e → r ≡ Err e → Answered nose Ms xs r xs
+  refused r e failed answer = record { answer = rw failed answer; cells = rw failed }
 
-  accepted : (r : Walked) (n : ℕ) (ys : List Float) → check ≡ Passed → r ≡ walked_as check n → n ≡ count_of nose Ms → ys ≡ sets xs 0 (walk_of nose Ms).values → Answered nose Ms xs r ys
+  accepted : (r : Walked) (n : ℕ) (ys : List Float) → flight_test Ms (length xs) ≡ Ok tt → r ≡ Ok n → n ≡ count_of nose Ms → ys ≡ sets xs 0 (walk_of nose Ms).values → Answered nose Ms xs r ys
   accepted r n ys passed answer count cells =
       record {
-        answer = rw (← is, passed, ← count) (answer ∙ rw passed);
-        cells = rw (← is, passed) (cells ∙ ap (sets xs 0) (agree nose Ms (length xs) (sym is ∙ passed)) ∙ front (values_of nose Ms) (length Ms) xs (length-map Ms _) (room Ms (length xs) (sym is ∙ passed)).0);
+        answer = rw (passed, ← count) answer;
+        cells = rw passed (cells ∙ ap (sets xs 0) (agree nose Ms (length xs) passed) ∙ front (values_of nose Ms) (length Ms) xs (length-map Ms _) (room Ms (length xs) passed).0);
       }
 
--- what `check` is
-is_test : (c : After-then-check) → let a = c.args in c.then-check.result ≡ flight_test a.machs.now (length a.answers.now)
-is_test c = tested _ _ _ _ _ c.check_given-given.ensures c.check_rising-rising.ensures c.then-check.ensures
+-- all tests have passed
+passed : (c : In_ok-check_rising) → let a = c.args in flight_test a.machs.now (length a.answers.now) ≡ Ok tt
+passed c = rw (← c.check_given.ensures, c.in_ok-check_given.was, ← c.check_rising.ensures, c.in_ok-check_rising.was)
 
-pub returns-in_default : goal.returns-in_default
-returns-in_default c =
+pub returns-in_err-check_given : goal.returns-in_err-check_given
+returns-in_err-check_given c =
     let a = c.args in
-    refused a.nose a.machs.now a.answers.now _ (is_test (goal.at.returns-in_default c).After-then-check) _ _ c.in_default.is c.counted.ensures
+    refused a.nose a.machs.now a.answers.now _ _ (rw (← c.check_given.ensures, c.in_err-check_given.was)) (handed_on _ _ c.from_residual.ensures)
 
-pub walk_table-compared-requires : goal.walk_table-compared-requires
-walk_table-compared-requires c =
+pub returns-in_err-check_rising : goal.returns-in_err-check_rising
+returns-in_err-check_rising c =
     let a = c.args in
-    room a.machs.now (length a.answers.now) (sym (is_test (goal.at.walk_table-compared-requires c).After-then-check) ∙ c.in-Passed.is)
+    refused a.nose a.machs.now a.answers.now _ _ (rw (← c.check_given.ensures, c.in_ok-check_given.was, ← c.check_rising.ensures, c.in_err-check_rising.was)) (handed_on _ _ c.from_residual-in_err-check_rising.ensures)
+
+pub walk_table-requires : goal.walk_table-requires
+walk_table-requires c = let a = c.args in room a.machs.now (length a.answers.now) (passed (goal.at.walk_table-requires c).In_ok-check_rising)
 
 pub returns : goal.returns
 returns c =
     let a = c.args in
-    let walked = c.walk_table-compared.ensures in
-    accepted a.nose a.machs.now a.answers.now _ (is_test (goal.at.returns c).After-then-check) _ _ _ c.in-Passed.is c.counted-2.ensures walked.0 walked.1
+    let walked = c.walk_table.ensures in
+    accepted a.nose a.machs.now a.answers.now _ _ _ (passed (goal.at.returns c).In_ok-check_rising) refl walked.0 walked.1
