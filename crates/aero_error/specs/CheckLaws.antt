@@ -19,15 +19,15 @@ pub record Both (a b : Check) : Type 0 where
   pub second : b ≡ Ok tt
 
 pub both_passed : (a b : Check) → (a then b) ≡ Ok tt → Both a b
-both_passed (Ok tt) b e = record { first = refl; second = e }
+both_passed (Ok _) b e = record { first = refl; second = e }
 both_passed (Err r) b e = let z : ◌≡◌ {A = ℕ} 0 1 = cc in absurd (omega arith)
 
 pub then_assoc : (a b c : Check) → ((a then b) then c) ≡ (a then b then c)
-then_assoc (Ok tt) b c = refl
+then_assoc (Ok _) b c = refl
 then_assoc (Err r) b c = refl
 
 pub then_passed : (a : Check) → (a then Ok tt) ≡ a
-then_passed (Ok tt) = refl
+then_passed (Ok _) = refl
 then_passed (Err r) = refl
 
 pub unless_passed : (broken : Bool) (rule : Rule) → unless broken rule ≡ Ok tt → broken ≡ false

@@ -28,7 +28,7 @@ dimension value allow-zero = finite value && (bits 0 ≺ value || (allow-zero &&
 
 -- one test after another: the first that fails is the answer
 abbrev pub ◌then◌ : Check → Check → Check
-Ok tt then next = next
+Ok _ then next = next
 Err refusal then next = Err refusal
 
 -- a rule's refusal where it is broken
@@ -43,12 +43,12 @@ up_to (suc n) test = up_to n test then test n
 
 -- Rust's `?` for an answer of any type, with what it is where the check fails
 abbrev pub after : {A : Type 0} → (AeroError → A) → Check → A → A
-after refused (Ok tt) answer = answer
+after refused (Ok _) answer = answer
 after refused (Err refusal) answer = refused refusal
 
 -- `check?; answer`
 abbrev pub ◌and_then◌ : {A : Type 0} → Check → Result A AeroError → Result A AeroError
-Ok tt and_then answer = answer
+Ok _ and_then answer = answer
 Err refusal and_then answer = Err refusal
 
 -- `let value = first?; rest(value)`

@@ -23,7 +23,7 @@ told_of e = record { number = number_of e; code = code_of e; value = refused_val
 
 -- a call's or a test's outcome
 abbrev pub told : Check → Option Told
-told (Ok tt) = none
+told (Ok _) = none
 told (Err e) = some (told_of e)
 
 -- a formula's answer
@@ -102,7 +102,7 @@ check_of none = Ok tt
 check_of (some t) = Err (error_of t)
 
 check_back : (c : Check) → check_of (told c) ≡ c
-check_back (Ok tt) = refl
+check_back (Ok _) = refl
 check_back (Err e) = ap Err (error_back e)
 
 pub told_apart : (a b : Check) → told a ≡ told b → a ≡ b

@@ -79,7 +79,7 @@ in_flow wall asked R M h = both (flow_checked M R) (M ≺ 1·0)
         ≡ (check and_then on_wall wall R λ limited rough.
         cond slow (incompressible limited rough R ⊗ slow_factor M) (cond limited (max_of (rough ⊘ fast_factor M) (fast_turbulent R M)) (fast_turbulent R M)))
     both (Err refusal) slow = refl
-    both (Ok tt) true =
+    both (Ok _) true =
         same_on_wall R (λ limited x. cond limited (wall.limited ⊗ slow_factor M) (turbulent_where asked R ⊗ slow_factor M)) (λ limited rough. incompressible limited rough R ⊗ slow_factor M) wall
         (below asked (limits_at wall R) R wall.limited (slow_factor M) h)
-    both (Ok tt) false = refl
+    both (Ok _) false = refl

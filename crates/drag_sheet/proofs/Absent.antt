@@ -1,4 +1,6 @@
 -- Where a place is absent or the design full: of a call's arguments the tests of its place and of the count answer 8 and 9, and none of settings, parts or numbers does (`Other`).
+use Rattle.std.specs.Prelude.{Some, Option, Ok, None, Err}
+use Rattle.aero_error.specs.Checks.{required, dimension, ◌then◌, unless, up_to, Check}
 use mathlib.Core.Path.{◌≡◌, refl, subst}
 use mathlib.Core.Logic.{◌≢◌, ◌↔◌, ⊎_elim}
 use mathlib.Core.Bool.{Bool, true, false, cond, ◌&&◌}
@@ -19,15 +21,10 @@ use Rattle.aero_error.specs.declared.AeroError.{AeroError}
 use Rattle.aero_error.specs.declared.AeroError.TheVariants.{Broken}
 use Rattle.aero_error.specs.declared.Rule.{Rule}
 use Rattle.aero_error.specs.declared.Rule.TheVariants.{TooManyColumns, NoSuchPlace, DesignFull, TooFewCells}
-use Rattle.aero_error.specs.declared.Check.{Check}
-use Rattle.aero_error.specs.declared.Check.TheVariants.{Passed, Failed}
 use Rattle.aero_error.specs.Refusals.{number_of_rule, number_of}
-use Rattle.aero_error.specs.Checks.{required, dimension, ◌then◌, unless, up_to}
 use Rattle.aero_error.specs.CheckLaws.{unless_passed}
 use Rattle.drag.specs.Friction.{mach_checked, flow_checked}
 use Rattle.sheet_data.specs.declared.Settings.{Settings}
-use Rattle.sheet_data.specs.declared.PartRoughness.{PartRoughness}
-use Rattle.sheet_data.specs.declared.PartRoughness.TheVariants.{OfSettings, Own}
 use Rattle.sheet_data.specs.declared.Part.{Part}
 use Rattle.sheet_data.specs.Layout.{most_parts, most_columns, needed}
 use Rattle.sheet_data.specs.Contents.{part_at}
@@ -39,12 +36,12 @@ use Rattle.drag_sheet.proofs.Refusals.{then_failed, unless_failed}
 -- ---- tests that don't give refusal n, for n from 8 to 9
 
 abbrev pub Other : ℕ → Check → Type 0
-Other n Passed = Unit {0}
-Other n (Failed e) = number_of e ≢ n
+Other n (Ok _) = Unit {0}
+Other n (Err e) = number_of e ≢ n
 
 pub other_then : (n : ℕ) (a b : Check) → Other n a → Other n b → Other n (a then b)
-other_then n Passed b h k = k
-other_then n (Failed e) b h k = h
+other_then n (Ok _) b h k = k
+other_then n (Err e) b h k = h
 
 pub other_up : (n m : ℕ) (test : ℕ → Check) → ((i : ℕ) → Other n (test i)) → Other n (up_to m test)
 unfolding up_to
@@ -60,7 +57,7 @@ other_cond n true one other h k = h
 other_cond n false one other h k = k
 
 -- it is not that refusal
-pub apart : {n : ℕ} {check : Check} {e : AeroError} {A : Type 0} → Other n check → number_of e ≡ n → check ≡ Failed e → A
+pub apart : {n : ℕ} {check : Check} {e : AeroError} {A : Type 0} → Other n check → number_of e ≡ n → check ≡ Err e → A
 apart {n} h q f = absurd (subst (Other n) f h q)
 
 module _ (n : ℕ) (low : 8 ≤ n) (high : n ≤ 9) where
@@ -86,9 +83,9 @@ module _ (n : ℕ) (low : 8 ≤ n) (high : n ≤ 9) where
       (other_then n (in_interval _ s.reference_diameter _) _ (other_interval _ _ _) (other_then n (in_interval _ s.roughness _) _ (other_interval _ _ _) (other_required (dimension s.body_fineness false) BodyFineness _)))
       (other_then n (columns_test s) _ (other_up n s.count _ (λ k. other_flow _ _)) (other_unless n (ltb cells (needed s.count)) TooFewCells (λ q. omega arith))))
 
-  other_own : (k : PartRoughness) → Other n (own_test k)
-  other_own OfSettings = tt
-  other_own (Own x) = other_interval _ _ _
+  other_own : (k : Option Float) → Other n (own_test k)
+  other_own None = tt
+  other_own (Some x) = other_interval _ _ _
 
   pub other_part : (p : Part) → Other n (part_test p)
   other_part p =
@@ -124,7 +121,7 @@ other_8 : (broken : Bool) → Other 9 (unless broken NoSuchPlace)
 other_8 broken = other_unless 9 broken NoSuchPlace (λ q. omega arith)
 
 -- 9 is the answer exactly where a part is put in and 16 stand, in a design of 16 at most
-pub arguments_9 : (call : Call) (s : Settings) (count : ℕ) → count ≤ most_parts → (arguments_test call s count ≡ Failed (Broken DesignFull)) ↔ Full call count
+pub arguments_9 : (call : Call) (s : Settings) (count : ℕ) → count ≤ most_parts → (arguments_test call s count ≡ Err (Broken DesignFull)) ↔ Full call count
 arguments_9 (replace place p) s count few =
     ((λ e. apart (other_then 9 (unless (leb count place) NoSuchPlace) _ (other_8 (leb count place)) (other_part 9 (omega arith) (omega arith) p)) refl e), (λ h. absurd h))
 arguments_9 (insert place p) s count few = (
@@ -144,7 +141,7 @@ arguments_9 (ignite n) s count few = ((λ e. apart (other_interval 9 (omega arit
 arguments_9 burnout s count few = ((λ e. never e refl), (λ h. absurd h))
 
 -- 8 is the answer exactly where the place or the column isn't there
-pub arguments_8 : (call : Call) (s : Settings) (count : ℕ) → (arguments_test call s count ≡ Failed (Broken NoSuchPlace)) ↔ Absent call s count
+pub arguments_8 : (call : Call) (s : Settings) (count : ℕ) → (arguments_test call s count ≡ Err (Broken NoSuchPlace)) ↔ Absent call s count
 arguments_8 (replace place p) s count = (
   (λ e. ⊎_elim (λ a. leb-true count place (unless_failed _ NoSuchPlace a)) (λ b. apart (other_part 8 (omega arith) (omega arith) p) refl b.1) (then_failed (unless (leb count place) NoSuchPlace) _ e)),
   (λ h. rw (le-leb count place h)),

@@ -1,4 +1,6 @@
 -- From what a call's functions say to what its contract says: what passed tests show, a refused call, all rows written, the rows of a replaced part written.
+use Rattle.std.specs.Prelude.{Ok, Err}
+use Rattle.aero_error.specs.Checks.{unless, Check}
 use mathlib.Core.Path.{◌≡◌, refl, sym, ap, ◌∙◌}
 use mathlib.Core.List.{List}
 use Prim.Native.Nat.{ℕ, ◌≤◌, ◌<◌}
@@ -8,10 +10,7 @@ use lib.Dec.{ltb, leb}
 use lib.Ieee.{Float}
 use borrow.Author.Tests.{ltb-false, leb-false}
 use Rattle.aero_error.specs.declared.AeroError.{AeroError}
-use Rattle.aero_error.specs.declared.Check.{Check}
-use Rattle.aero_error.specs.declared.Check.TheVariants.{Passed, Failed}
 use Rattle.aero_error.specs.declared.Rule.TheVariants.{TooManyColumns, TooFewCells, DesignFull, NoSuchPlace}
-use Rattle.aero_error.specs.Checks.{unless}
 use Rattle.aero_error.specs.CheckLaws.{both_passed, unless_passed, up_none}
 use Rattle.drag.specs.Friction.{flow_checked}
 use Rattle.sheet_data.specs.declared.Settings.{Settings}
@@ -19,15 +18,13 @@ use Rattle.sheet_data.specs.declared.Sheet.{Sheet}
 use Rattle.sheet_data.specs.Layout.{most_parts, most_columns, needed}
 use Rattle.sheet_data.specs.Contents.{Contents, contents_of, blank, Fits}
 use Rattle.sheet_data.specs.Tests.{body_test, columns_test, settings_test, nozzle_test, part_test, sheet_test}
-use Rattle.drag_sheet.specs.declared.Answer.{Answer}
+use Rattle.drag_sheet.specs.Calls.{Answer, Call, replace, insert, remove, set_column, ignite, burnout, arguments_test, tries, scope, after, call_test, sheet_with, answered, Called, Opened}
 use Rattle.drag_sheet.specs.Build.{trial}
-use Rattle.drag_sheet.specs.Writing.{chosen, whole, overwritten}
-use Rattle.drag_sheet.specs.Calls.{Call, replace, insert, remove, set_column, ignite, burnout, arguments_test, tries, scope, after, call_test, sheet_with, answered, Called, Opened}
-use Rattle.drag_sheet.specs.Edits.{Rewritten}
+use Rattle.drag_sheet.specs.Writing.{chosen, whole, overwritten, AllWritten}
 
 -- ---- what passed tests show
 
-pub settings_facts : (s : Settings) (cells : ℕ) → settings_test s cells ≡ Passed → (s.count ≤ most_columns) × (needed s.count ≤ cells)
+pub settings_facts : (s : Settings) (cells : ℕ) → settings_test s cells ≡ Ok tt → (s.count ≤ most_columns) × (needed s.count ≤ cells)
 unfolding settings_test
 settings_facts s cells e =
     let a = both_passed (unless (ltb most_columns s.count) TooManyColumns) _ e in
@@ -35,7 +32,7 @@ settings_facts s cells e =
     let d = both_passed (columns_test s) _ b.second in
     (ltb-false most_columns s.count (unless_passed _ TooManyColumns a.first), ltb-false cells (needed s.count) (unless_passed _ TooFewCells d.second))
 
-pub sheet_fits : (sheet : Sheet) (cells : ℕ) → sheet_test (contents_of sheet) cells sheet.design.count ≡ Passed → Fits sheet cells
+pub sheet_fits : (sheet : Sheet) (cells : ℕ) → sheet_test (contents_of sheet) cells sheet.design.count ≡ Ok tt → Fits sheet cells
 unfolding sheet_test
 sheet_fits sheet cells e =
     let a = both_passed (settings_test sheet.settings cells) _ e in
@@ -46,9 +43,9 @@ sheet_fits sheet cells e =
 
 pub record Facts (call : Call) (sheet : Sheet) (cells : ℕ) : Type 0 where
   pub fits : Fits sheet cells
-  pub arguments : arguments_test call sheet.settings sheet.design.count ≡ Passed
+  pub arguments : arguments_test call sheet.settings sheet.design.count ≡ Ok tt
 
-pub call_facts : (call : Call) (sheet : Sheet) (cells : ℕ) → call_test call sheet cells ≡ Passed → Facts call sheet cells
+pub call_facts : (call : Call) (sheet : Sheet) (cells : ℕ) → call_test call sheet cells ≡ Ok tt → Facts call sheet cells
 call_facts call sheet cells e =
     let a = both_passed (sheet_test (contents_of sheet) cells sheet.design.count) _ e in
     record { fits = sheet_fits sheet cells a.first; arguments = a.second }
@@ -62,7 +59,7 @@ Bounds (set_column k M R) s count = k < s.count
 Bounds (ignite n) s count = Unit {0}
 Bounds burnout s count = Unit {0}
 
-pub bounds : (call : Call) (s : Settings) (count : ℕ) → arguments_test call s count ≡ Passed → Bounds call s count
+pub bounds : (call : Call) (s : Settings) (count : ℕ) → arguments_test call s count ≡ Ok tt → Bounds call s count
 bounds (replace place p) s count e = leb-false count place (unless_passed _ _ (both_passed (unless (leb count place) _) (part_test p) e).first)
 bounds (insert place p) s count e =
     let a = both_passed (unless (ltb count place) NoSuchPlace) _ e in
@@ -75,10 +72,10 @@ bounds burnout s count e = tt
 
 -- ---- the contract
 
-pub called_refused : (call : Call) (sheet : Sheet) (xs : List Float) (r : Check) (e : AeroError) → r ≡ call_test call sheet (length xs) → r ≡ Failed e → Called call sheet xs (record { outcome = r; sheet = sheet }) xs
-called_refused call sheet xs r e h f = let t : call_test call sheet (length xs) ≡ Failed e = sym h ∙ f in record { answer = rw (t, f); left = rw t }
+pub called_refused : (call : Call) (sheet : Sheet) (xs : List Float) (r : Check) (e : AeroError) → call_test call sheet (length xs) ≡ Err e → r ≡ Err e → Called call sheet xs (record { outcome = r; sheet = sheet }) xs
+called_refused call sheet xs r e t f = record { answer = rw (t, f); left = rw t }
 
-pub called : (call : Call) (sheet : Sheet) (xs : List Float) (r : Answer) (ys : List Float) (test : Check) (new : Sheet) → call_test call sheet (length xs) ≡ Passed → test ≡ tries call (after call sheet)
+pub called : (call : Call) (sheet : Sheet) (xs : List Float) (r : Answer) (ys : List Float) (test : Check) (new : Sheet) → call_test call sheet (length xs) ≡ Ok tt → test ≡ tries call (after call sheet)
     → new ≡ sheet_with (after call sheet) sheet → r ≡ answered test sheet new → ys ≡ chosen test xs (overwritten (scope call (after call sheet)) (after call sheet) xs) → Called call sheet xs r ys
 called call sheet xs r ys test new p t n a l = record { answer = a ∙ rw (n, p, t); left = l ∙ rw (p, t) }
 
@@ -86,20 +83,29 @@ called call sheet xs r ys test new p t n a l = record { answer = a ∙ rw (n, p,
 pub contents_with : (c : Contents) (sheet : Sheet) → contents_of (sheet_with c sheet) ≡ c
 contents_with c sheet = ap (λ ps. record { settings = c.settings; parts = ps; nozzle = c.nozzle }) (take_at c.parts (drop (length c.parts) sheet.design.parts) (length c.parts) refl)
 
--- all rows written
-pub called_whole : (call : Call) (sheet left : Sheet) (xs : List Float) (r : Answer) (ys : List Float) → call_test call sheet (length xs) ≡ Passed → left ≡ sheet_with (after call sheet) sheet
-    → trial (after call sheet) ≡ tries call (after call sheet) → scope call (after call sheet) ≡ whole → Rewritten sheet left xs r ys → Called call sheet xs r ys
-called_whole call sheet left xs r ys p n t w f =
-    let e : contents_of left ≡ after call sheet = ap contents_of n ∙ contents_with (after call sheet) sheet in
-    called call sheet xs r ys (trial (after call sheet)) left p t n (f.answer ∙ rw e) (f.cells ∙ rw (e, w))
+-- all rows written, or the refusal of one handed on
+module _ (call : Call) (sheet left : Sheet) (xs : List Float) (r : Check) (ys : List Float) (p : call_test call sheet (length xs) ≡ Ok tt) (n : left ≡ sheet_with (after call sheet) sheet)
+    (t : trial (after call sheet) ≡ tries call (after call sheet)) (w : scope call (after call sheet) ≡ whole) (f : AllWritten (contents_of left) xs r ys) where
+  same_contents : contents_of left ≡ after call sheet
+  same_contents = ap contents_of n ∙ contents_with (after call sheet) sheet
 
-pub opened_refused : (s : Settings) (xs : List Float) (sheet : Sheet) (r : Check) (e : AeroError) → sheet ≡ blank s → r ≡ settings_test s (length xs) → r ≡ Failed e → Opened s xs (record { outcome = r; sheet = sheet }) xs
-opened_refused s xs sheet r e b h f = let t : settings_test s (length xs) ≡ Failed e = sym h ∙ f in record { answer = rw (t, f, b); left = rw t }
+  whole_called : (a : Answer) → a ≡ answered r sheet left → Called call sheet xs a ys
+  whole_called a e = called call sheet xs a ys r left p (f.verdict ∙ rw same_contents t) n e (f.left ∙ rw (f.verdict, same_contents, w))
+
+  pub whole_refused : (s : Check) (e : AeroError) → r ≡ Err e → s ≡ Err e → Called call sheet xs (record { outcome = s; sheet = sheet }) ys
+  whole_refused s e h k = whole_called _ (rw (h, k))
+
+  pub whole_accepted : r ≡ Ok tt → Called call sheet xs (record { outcome = Ok tt; sheet = left }) ys
+  whole_accepted h = whole_called _ (rw h)
+
+pub opened_refused : (s : Settings) (xs : List Float) (sheet : Sheet) (r : Check) (e : AeroError) → sheet ≡ blank s → settings_test s (length xs) ≡ Err e → r ≡ Err e → Opened s xs (record { outcome = r; sheet = sheet }) xs
+opened_refused s xs sheet r e b t f = record { answer = rw (t, f, b); left = rw t }
 
 -- with no parts nothing is tried
-pub blank_tried : (s : Settings) → trial (contents_of (blank s)) ≡ Passed
+pub blank_tried : (s : Settings) → trial (contents_of (blank s)) ≡ Ok tt
 unfolding trial
 blank_tried s = up_none _
 
-pub opened_whole : (s : Settings) (xs : List Float) (sheet : Sheet) (r : Answer) (ys : List Float) → sheet ≡ blank s → settings_test s (length xs) ≡ Passed → Rewritten sheet sheet xs r ys → Opened s xs r ys
-opened_whole s xs sheet r ys b p f = record { answer = f.answer ∙ rw (b, blank_tried s, p); left = f.cells ∙ rw (b, blank_tried s, p) }
+pub opened_whole : (s : Settings) (xs : List Float) (sheet : Sheet) (r : Check) (ys : List Float) → sheet ≡ blank s → settings_test s (length xs) ≡ Ok tt → AllWritten (contents_of sheet) xs r ys
+    → Opened s xs (record { outcome = r; sheet = sheet }) ys
+opened_whole s xs sheet r ys b p f = record { answer = rw (f.verdict, b, blank_tried s, p); left = f.left ∙ rw (b, blank_tried s, p) }

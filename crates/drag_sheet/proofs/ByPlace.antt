@@ -1,5 +1,6 @@
 -- What the sum of the frictions means. "A sum by place from +0": without parts it is +0, and a part put last adds its own friction to what stood (`no_parts`, `one_more`).
 -- "At that part's roughness; absent, it is the settings' one": with every roughness written out the friction stays, whatever roughness the settings have then (`written_out`).
+use Rattle.std.specs.Prelude.{Some, Option, None}
 use mathlib.Core.Path.{◌≡◌, refl, ap}
 use mathlib.Core.List.{List, [], ◌∷◌, ◌++◌}
 use Prim.Native.Nat.{ℕ, ◌+◌, ◌<◌}
@@ -10,8 +11,6 @@ use lib.Ieee.{Float}
 use Rattle.elementary.specs.Arithmetic.{◌⊕◌}
 use Rattle.elementary.specs.Constants.{0·0}
 use Rattle.sheet_data.specs.declared.Settings.{Settings}
-use Rattle.sheet_data.specs.declared.PartRoughness.{PartRoughness}
-use Rattle.sheet_data.specs.declared.PartRoughness.TheVariants.{OfSettings, Own}
 use Rattle.sheet_data.specs.declared.Part.{Part}
 use Rattle.sheet_data.specs.Contents.{no_part, part_at}
 use Rattle.drag_sheet.specs.Formulas.{roughness_of, part_friction, friction_cell}
@@ -30,18 +29,18 @@ module _ (s : Settings) (n M R : Float) where
       (ap (λ (x : Float). x ⊕ part_friction s p M R) (sum_same (length ps) _ _ (λ i h. ap (λ (q : Part). part_friction s q M R) (get_or-append ps (p ∷ []) no_part i h))))
 
 -- a roughness written out, k being the settings'
-abbrev written_as : PartRoughness → Float → PartRoughness
-written_as OfSettings k = Own k
-written_as (Own x) k = Own x
+abbrev written_as : Option Float → Float → Option Float
+written_as None k = Some k
+written_as (Some x) k = Some x
 
 -- the same part with its roughness written out
 pub record WrittenOut (k : Float) (p q : Part) : Type 0 where
   pub wetted : q.wetted_ratio ≡ p.wetted_ratio
   pub roughness : q.roughness ≡ written_as p.roughness k
 
-same_roughness : (r : PartRoughness) (k other : Float) → roughness_of (written_as r k) other ≡ roughness_of r k
-same_roughness OfSettings k other = refl
-same_roughness (Own x) k other = refl
+same_roughness : (r : Option Float) (k other : Float) → roughness_of (written_as r k) other ≡ roughness_of r k
+same_roughness None k other = refl
+same_roughness (Some x) k other = refl
 
 pub written_out : (s t : Settings) (ps qs : List Part) (n M R : Float) → t.body_fineness ≡ s.body_fineness → length qs ≡ length ps
     → ((i : ℕ) → i < length ps → WrittenOut s.roughness (part_at ps i) (part_at qs i)) → friction_cell (record { settings = t; parts = qs; nozzle = n }) M R ≡ friction_cell (record { settings = s; parts = ps; nozzle = n }) M R

@@ -1,5 +1,7 @@
 -- Any call on any sheet and cells: accepted, with what it leaves, or refused, with what was given. Nothing past the rows is written, replacing a part writes no row
 -- but its own, the next part's where there is one, friction, base and total, and ignite and burnout none but base and total.
+use Rattle.std.specs.Prelude.{Ok, Err}
+use Rattle.aero_error.specs.Checks.{Check}
 use mathlib.Core.Path.{◌≡◌, refl, sym, ap, ◌∙◌, subst}
 use mathlib.Core.Logic.{dite, ◌≢◌}
 use mathlib.Core.List.{List}
@@ -10,17 +12,14 @@ use lib.ListN.{length, drop, set, length-set, length-take}
 use lib.Seq.{length-take-le}
 use lib.Ieee.{Float}
 use Rattle.aero_error.specs.declared.AeroError.{AeroError}
-use Rattle.aero_error.specs.declared.Check.{Check}
-use Rattle.aero_error.specs.declared.Check.TheVariants.{Passed, Failed}
 use Rattle.aero_error.specs.CheckLaws.{both_passed}
 use Rattle.sheet_data.specs.declared.Part.{Part}
 use Rattle.sheet_data.specs.declared.Sheet.{Sheet}
 use Rattle.sheet_data.specs.Layout.{most_parts, finishes, friction_row, base_row, total_row, all_rows, needed}
 use Rattle.sheet_data.specs.Contents.{Contents, contents_of, parts_of}
 use Rattle.sheet_data.specs.Rows.{Unnamed, row_at}
-use Rattle.drag_sheet.specs.declared.Answer.{Answer}
+use Rattle.drag_sheet.specs.Calls.{Answer, Call, replace, insert, remove, set_column, ignite, burnout, applied, nozzle_rows, scope, tries, after, call_test, decision, sheet_with, Called}
 use Rattle.drag_sheet.specs.Writing.{Scope, rows, overwritten}
-use Rattle.drag_sheet.specs.Calls.{Call, replace, insert, remove, set_column, ignite, burnout, applied, nozzle_rows, scope, tries, after, call_test, decision, sheet_with, Called}
 use Rattle.drag_sheet.specs.Lists.{Arrays}
 use Rattle.drag_sheet.proofs.Verdicts.{never}
 use Rattle.drag_sheet.proofs.Slots.{inserted_long, removed_long}
@@ -30,19 +29,19 @@ use Rattle.drag_sheet.proofs.Duties.{scope_inside, body_not_part}
 
 -- accepted, with the cells that the call leaves; or refused, with the sheet and the cells that were given
 pub data Ended (call : Call) (sheet : Sheet) (xs : List Float) (r : Answer) (ys : List Float) : Type 0 where
-  accepted : decision call sheet (length xs) ≡ Passed → r ≡ record { outcome = Passed; sheet = sheet_with (after call sheet) sheet } → ys ≡ overwritten (scope call (after call sheet)) (after call sheet) xs
+  accepted : decision call sheet (length xs) ≡ Ok tt → r ≡ record { outcome = Ok tt; sheet = sheet_with (after call sheet) sheet } → ys ≡ overwritten (scope call (after call sheet)) (after call sheet) xs
       → Ended call sheet xs r ys
-  refusal : (e : AeroError) → decision call sheet (length xs) ≡ Failed e → r ≡ record { outcome = Failed e; sheet = sheet } → ys ≡ xs → Ended call sheet xs r ys
+  refusal : (e : AeroError) → decision call sheet (length xs) ≡ Err e → r ≡ record { outcome = Err e; sheet = sheet } → ys ≡ xs → Ended call sheet xs r ys
 
 pub ended : (call : Call) (sheet : Sheet) (xs : List Float) (r : Answer) (ys : List Float) → Called call sheet xs r ys → Ended call sheet xs r ys
 ended call sheet xs r ys c = by (decision call sheet (length xs)) refl
   where
     by : (d : Check) → decision call sheet (length xs) ≡ d → Ended call sheet xs r ys
-    by Passed p = accepted p (c.answer ∙ rw p) (c.left ∙ rw p)
-    by (Failed e) p = refusal e p (c.answer ∙ rw p) (c.left ∙ rw p)
+    by (Ok _) p = accepted p (c.answer ∙ rw p) (c.left ∙ rw p)
+    by (Err e) p = refusal e p (c.answer ∙ rw p) (c.left ∙ rw p)
 
 -- "a refused edit hands back the design and every lent cell unaltered"
-pub refused_unaltered : (call : Call) (sheet : Sheet) (xs : List Float) (r : Answer) (ys : List Float) (e : AeroError) → Called call sheet xs r ys → r.outcome ≡ Failed e → (r.sheet ≡ sheet) × (ys ≡ xs)
+pub refused_unaltered : (call : Call) (sheet : Sheet) (xs : List Float) (r : Answer) (ys : List Float) (e : AeroError) → Called call sheet xs r ys → r.outcome ≡ Err e → (r.sheet ≡ sheet) × (ys ≡ xs)
 refused_unaltered call sheet xs r ys e c o = by (ended call sheet xs r ys c)
   where
     by : Ended call sheet xs r ys → (r.sheet ≡ sheet) × (ys ≡ xs)
@@ -62,12 +61,12 @@ parts_few burnout c b few = few
 
 pub record Accepted (call : Call) (sheet : Sheet) (xs : List Float) : Type 0 where
   pub facts : Facts call sheet (length xs)
-  pub tried : tries call (after call sheet) ≡ Passed
+  pub tried : tries call (after call sheet) ≡ Ok tt
   pub long : length (parts_of sheet.design) ≡ sheet.design.count
   pub within : Bounds call sheet.settings (length (parts_of sheet.design))
   pub few : length (parts_of sheet.design) ≤ most_parts
 
-pub shown : (call : Call) (sheet : Sheet) (xs : List Float) → length sheet.design.parts ≡ most_parts → decision call sheet (length xs) ≡ Passed → Accepted call sheet xs
+pub shown : (call : Call) (sheet : Sheet) (xs : List Float) → length sheet.design.parts ≡ most_parts → decision call sheet (length xs) ≡ Ok tt → Accepted call sheet xs
 shown call sheet xs slots p =
     let b = both_passed (call_test call sheet (length xs)) (tries call (after call sheet)) p in
     let f = call_facts call sheet (length xs) b.first in

@@ -1,4 +1,6 @@
 -- The rows of a replaced part written one after the other are the rows that its call names; and the sheets that the calls leave are those with the contents left.
+use Rattle.std.specs.Prelude.{Ok, Err}
+use Rattle.aero_error.specs.Checks.{◌then◌, Check}
 use mathlib.Core.Path.{◌≡◌, refl, sym, ap, ◌∙◌}
 use mathlib.Core.List.{List, [], ◌∷◌, ◌++◌}
 use Prim.Native.Nat.{ℕ, ◌+◌, ◌-◌, ◌*◌, ◌≤◌, ◌<◌}
@@ -6,9 +8,6 @@ use native.Mathlib.Omega.{arith}
 use lib.ListN.{length, take, drop, set, length-set, take-append-drop}
 use lib.Seq.{length-take-le, take-set-lt, drop-set-lt}
 use lib.Ieee.{Float}
-use Rattle.aero_error.specs.declared.Check.{Check}
-use Rattle.aero_error.specs.declared.Check.TheVariants.{Passed, Failed}
-use Rattle.aero_error.specs.Checks.{◌then◌}
 use Rattle.sheet_data.specs.declared.Part.{Part}
 use Rattle.sheet_data.specs.declared.Design.{Design}
 use Rattle.sheet_data.specs.declared.Sheet.{Sheet}
@@ -18,9 +17,8 @@ use Rattle.sheet_data.specs.Rows.{written, rows_written}
 use Rattle.sheet_data.specs.RowLaws.{rows_append}
 use Rattle.drag_sheet.specs.Build.{row_test, row_of}
 use Rattle.drag_sheet.specs.Writing.{chosen, rows, totalled, overwritten}
-use Rattle.drag_sheet.specs.declared.Answer.{Answer}
-use Rattle.drag_sheet.specs.Calls.{Call, replace, insert, remove, set_column, insert_at, remove_at, with_column, with_nozzle, row_test_where, replaced_rows, nozzle_rows, body_rows, tries, scope, after, call_test, sheet_with, answered, Called}
-use Rattle.drag_sheet.specs.Edits.{replaced_in, Changed, sheet_with_nozzle, NozzlePut}
+use Rattle.drag_sheet.specs.Calls.{Answer, Call, replace, insert, remove, set_column, insert_at, remove_at, with_column, with_nozzle, row_test_where, replaced_rows, nozzle_rows, body_rows, tries, scope, after, call_test, sheet_with, answered, Called}
+use Rattle.drag_sheet.specs.Edits.{replaced_in, Changed, NozzlePut}
 use Rattle.drag_sheet.proofs.Answers.{call_facts, called, contents_with}
 use Rattle.drag_sheet.proofs.Slots.{inserted_long, removed_long}
 
@@ -82,12 +80,12 @@ module _ (sheet : Sheet) (slots : length sheet.design.parts ≡ most_parts) (few
   pub column_sheet : (k : ℕ) (M R : Float) → record { settings = with_column sheet.settings k M R; design = sheet.design; nozzle_diameter = sheet.nozzle_diameter } ≡ sheet_with (after (set_column k M R) sheet) sheet
   column_sheet k M R = rw parts_long (ap (λ ps. record { settings = with_column sheet.settings k M R; design = record { count = d.count; parts = ps }; nozzle_diameter = sheet.nozzle_diameter }) split)
 
-  pub nozzle_sheet : (n : Float) → sheet_with_nozzle n sheet ≡ sheet_with (with_nozzle n (contents_of sheet)) sheet
+  pub nozzle_sheet : (n : Float) → record { settings = sheet.settings; design = sheet.design; nozzle_diameter = n } ≡ sheet_with (with_nozzle n (contents_of sheet)) sheet
   nozzle_sheet n = rw parts_long (ap (λ ps. record { settings = sheet.settings; design = record { count = d.count; parts = ps }; nozzle_diameter = n }) split)
 
 -- ---- a replaced part's rows written: the contract
 
-pub called_changed : (sheet left : Sheet) (place : ℕ) (p : Part) (xs : List Float) (test : Check) (r : Answer) (ys : List Float) → call_test (replace place p) sheet (length xs) ≡ Passed
+pub called_changed : (sheet left : Sheet) (place : ℕ) (p : Part) (xs : List Float) (test : Check) (r : Answer) (ys : List Float) → call_test (replace place p) sheet (length xs) ≡ Ok tt
     → left ≡ sheet_with (after (replace place p) sheet) sheet → Changed left place xs test ys → r ≡ answered test sheet left → Called (replace place p) sheet xs r ys
 unfolding tries
 called_changed sheet left place p xs test r ys ok n f a =
@@ -103,14 +101,7 @@ called_changed sheet left place p xs test r ys ok n f a =
 
 -- ---- a nozzle diameter put: the contract
 
-pub called_nozzle : (call : Call) (n : Float) (sheet : Sheet) (xs : List Float) (test : Check) (r : Answer) (ys : List Float) → length sheet.design.parts ≡ most_parts
-    → test ≡ call_test call sheet (length xs) → tries call (after call sheet) ≡ Passed → after call sheet ≡ with_nozzle n (contents_of sheet)
-    → scope call (after call sheet) ≡ rows nozzle_rows → NozzlePut test n sheet xs r ys → Called call sheet xs r ys
-called_nozzle call n sheet xs test r ys slots t none left only f = by test refl
-  where
-    by : (d : Check) → test ≡ d → Called call sheet xs r ys
-    by (Failed e) p = let q = sym t ∙ p in record { answer = f.answer ∙ rw (p, q); left = f.cells ∙ rw (p, q) }
-    by Passed p =
-        let q = sym t ∙ p in
-        let same : sheet_with_nozzle n sheet ≡ sheet_with (after call sheet) sheet = nozzle_sheet sheet slots (call_facts call sheet (length xs) q).fits.parts n ∙ ap (λ (c : Contents). sheet_with c sheet) (sym left) in
-        called call sheet xs r ys Passed (sheet_with_nozzle n sheet) q (sym none) same (f.answer ∙ rw p) (f.cells ∙ rw (p, only, left))
+pub called_nozzle : (call : Call) (n : Float) (sheet left : Sheet) (xs ys : List Float) → call_test call sheet (length xs) ≡ Ok tt → tries call (after call sheet) ≡ Ok tt
+    → after call sheet ≡ with_nozzle n (contents_of sheet) → scope call (after call sheet) ≡ rows nozzle_rows → NozzlePut n sheet xs left ys → Called call sheet xs (record { outcome = Ok tt; sheet = left }) ys
+called_nozzle call n sheet left xs ys passed none new only f =
+    called call sheet xs _ ys (Ok tt) left passed (sym none) (f.sheet_left ∙ ap (λ (c : Contents). sheet_with c sheet) (sym new)) refl (f.cells ∙ rw (only, new))

@@ -1,6 +1,7 @@
 -- What each call owes: the cells outside its scope are the same in the build of what stood and of what stands then (a part's row depends on that part and on the
 -- d before it, a column stands by itself), and the rows that it tries decide where the rows of what stood could be built. Then the one law over calls (`call_holds`):
 -- what a call writes over cells that hold the build of what stood leaves cells that hold the build of what stands then.
+use Rattle.std.specs.Prelude.{Ok}
 use mathlib.Core.Path.{◌≡◌, refl, sym, ap, ◌∙◌}
 use mathlib.Core.Logic.{dite, ◌≢◌}
 use mathlib.Core.List.{List, [], ◌∷◌, ◌++◌}
@@ -11,7 +12,6 @@ use lib.ListN.{length, set, length-set}
 use lib.Seq.{get_or-set_other}
 use lib.Ieee.{Float}
 use borrow.Author.Tests.{lt-ltb, le-ltb}
-use Rattle.aero_error.specs.declared.Check.TheVariants.{Passed}
 use Rattle.aero_error.specs.Checks.{◌then◌, up_to}
 use Rattle.aero_error.specs.CheckLaws.{both_passed, then_passed, up_each, up_only, up_two, up_same}
 use Rattle.sheet_data.specs.declared.Part.{Part}
@@ -83,12 +83,12 @@ module _ (c : Contents) (place : ℕ) (p : Part) (inside : place < length c.part
       (λ l. rw (lt-ltb (place + 1) (length c.parts) l) (omega arith, (omega arith, tt)))
       (λ l. rw (le-ltb (place + 1) (length c.parts) (omega arith)) (omega arith, tt)))
 
-  replace_tries : trial c ≡ Passed → tries (replace place p) new ≡ trial new
+  replace_tries : trial c ≡ Ok tt → tries (replace place p) new ≡ trial new
   unfolding tries trial row_test
   replace_tries ok =
       let n = length c.parts in
       let long : length (set c.parts place p) ≡ n = length-set c.parts place p in
-      let others : (i : ℕ) → i < n → i ≢ place → i ≢ place + 1 → row_test new i ≡ Passed = λ i l a b. same_test i a b ∙ up_each (row_test c) n ok i l in
+      let others : (i : ℕ) → i < n → i ≢ place → i ≢ place + 1 → row_test new i ≡ Ok tt = λ i l a b. same_test i a b ∙ up_each (row_test c) n ok i l in
       dite (dec_lt (place + 1) n)
       (λ l. rw (long, lt-ltb (place + 1) n l) (sym (up_two (row_test new) place n l others)))
       (λ l. rw (long, le-ltb (place + 1) n (omega arith), then_passed (row_test new place)) (sym (up_only (row_test new) place n inside (λ i m a. others i m a (λ e. omega arith)))))
@@ -112,7 +112,7 @@ module _ (c : Contents) (k : ℕ) (M R : Float) where
   other_column : (r i : ℕ) → i ≢ k → cell_at c r i ≡ cell_at put r i
   other_column r i u = rw (same_mach c.settings k M R i u, same_reynolds c.settings k M R i u) (other_kind (kind_at finishes r) (mach_at c.settings i) (reynolds_at c.settings i))
 
-  column_tries : k < c.settings.count → trial c ≡ Passed → tries (set_column k M R) put ≡ trial put
+  column_tries : k < c.settings.count → trial c ≡ Ok tt → tries (set_column k M R) put ≡ trial put
   unfolding tries trial row_test column_trial
   column_tries h ok = up_same _ _ (length c.parts) (λ i l.
       let b = both_passed (ready_test (prepared_at c i)) _ (up_each _ (length c.parts) ok i l) in
@@ -125,7 +125,7 @@ nozzle_below = (omega arith, tt)
 
 module _ (n : Float) (c : Contents) where
   -- no part's row depends on the nozzle diameter
-  nozzle_tries : trial c ≡ Passed → Passed ≡ trial (with_nozzle n c)
+  nozzle_tries : trial c ≡ Ok tt → Ok tt ≡ trial (with_nozzle n c)
   nozzle_tries ok = sym (same_trial n c ∙ ok)
 
   nozzle_holds : (xs : List Float) → Holds c xs → Holds (with_nozzle n c) (overwritten (rows nozzle_rows) (with_nozzle n c) xs)
@@ -134,7 +134,7 @@ module _ (n : Float) (c : Contents) where
 -- ---- every call
 
 -- the rows that a call tries decide, where the rows of what stood could be built
-pub narrow : (call : Call) (c : Contents) → Bounds call c.settings (length c.parts) → trial c ≡ Passed → tries call (applied call c) ≡ trial (applied call c)
+pub narrow : (call : Call) (c : Contents) → Bounds call c.settings (length c.parts) → trial c ≡ Ok tt → tries call (applied call c) ≡ trial (applied call c)
 unfolding tries
 narrow (replace place p) c b ok = replace_tries c place p b ok
 narrow (insert place p) c b ok = refl

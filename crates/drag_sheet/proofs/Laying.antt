@@ -1,4 +1,6 @@
 -- The loops that write rows into lent cells: part rows by place (`Laying`), a cell of each row (`Putting`), and a sheet built from nothing over cells of +0.
+use Rattle.std.specs.Prelude.{Ok}
+use Rattle.aero_error.specs.Checks.{up_to, Check}
 use mathlib.Core.Path.{◌≡◌, refl, sym, ap, ◌∙◌}
 use mathlib.Core.Logic.{dite, ◌≢◌}
 use mathlib.Core.List.{List, ◌++◌}
@@ -10,9 +12,6 @@ use lib.ListN.{length, take, drop, set, get_or, replicate, length-replicate, rep
 use lib.Seq.{take_all, drop_at, length-take-le}
 use lib.Ieee.{Float, nan}
 use Rattle.elementary.specs.Constants.{0·0}
-use Rattle.aero_error.specs.declared.Check.{Check}
-use Rattle.aero_error.specs.declared.Check.TheVariants.{Passed}
-use Rattle.aero_error.specs.Checks.{up_to}
 use Rattle.aero_error.specs.CheckLaws.{up_none, up_more}
 use Rattle.sheet_data.specs.declared.Part.{Part}
 use Rattle.sheet_data.specs.Layout.{most_parts, finishes, friction_row, base_row, total_row, all_rows, needed}
@@ -32,7 +31,7 @@ use Rattle.drag_sheet.proofs.Overwritten.{Holds, holds_build, rows_hold, keeps}
 
 pub record Laying (c : Contents) (places : ℕ) (cells₀ cells : List Float) (fore : Float) (place : ℕ) : Type 0 where
   pub before : fore ≡ fore_at c.parts place
-  pub passed : up_to place (row_test c) ≡ Passed
+  pub passed : up_to place (row_test c) ≡ Ok tt
   pub rows : RowsDone c.settings.count (row_of c) 0 places cells₀ cells place
 
 pub none_laid : {c : Contents} {places : ℕ} (cells : List Float) → Laying c places cells cells 0·0 0
@@ -50,7 +49,7 @@ module _ (c : Contents) {places : ℕ} {cells₀ cells : List Float} {fore : Flo
   pub laid_next : (at : ℕ) (row : List Float) → at ≡ place * c.settings.count → at + c.settings.count ≤ length cells → length row ≡ c.settings.count
       → {p : Part} → part_at c.parts place ≡ p → place < most_parts → place < length c.parts → {r : Check}
       → Filled (row_test_from (prepared_of c.settings.reference_diameter fore p) c.settings) (row_from (prepared_of c.settings.reference_diameter fore p) c.settings) r row
-      → r ≡ Passed → place < places
+      → r ≡ Ok tt → place < places
       → Laying c places cells₀ (take at cells ++ (row ++ drop (at + c.settings.count - at) (drop at cells))) p.aft_diameter (place + 1)
   unfolding fore_at
   laid_next at row e fits w q few inside f ok h =

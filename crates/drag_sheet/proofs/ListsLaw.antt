@@ -1,5 +1,7 @@
 -- The rows, the settings and the design after every list of calls are the model's, and so is every answer. It takes of the program nothing but its contracts, and
 -- that a sheet's arrays have their lengths.
+use Rattle.std.specs.Prelude.{Ok, Err}
+use Rattle.aero_error.specs.Checks.{◌then◌, Check}
 use mathlib.Core.Path.{◌≡◌, refl, sym, ap, ◌∙◌, subst}
 use mathlib.Core.List.{List, ◌++◌, map}
 use Prim.Native.Nat.{ℕ, ◌≤◌}
@@ -8,9 +10,6 @@ use lib.ListN.{length, drop, length-set, length-append, length-drop}
 use lib.Seq.{length-take-le}
 use lib.Ieee.{Float}
 use Rattle.aero_error.specs.declared.AeroError.{AeroError}
-use Rattle.aero_error.specs.declared.Check.{Check}
-use Rattle.aero_error.specs.declared.Check.TheVariants.{Passed, Failed}
-use Rattle.aero_error.specs.Checks.{◌then◌}
 use Rattle.aero_error.specs.CheckLaws.{then_assoc}
 use Rattle.aero_error.specs.Told.{told}
 use Rattle.sheet_data.specs.declared.Settings.{Settings}
@@ -18,10 +17,9 @@ use Rattle.sheet_data.specs.declared.Sheet.{Sheet}
 use Rattle.sheet_data.specs.Layout.{most_parts, most_columns, needed}
 use Rattle.sheet_data.specs.Contents.{contents_of, parts_of, blank}
 use Rattle.sheet_data.specs.Tests.{settings_test, sheet_test}
-use Rattle.drag_sheet.specs.declared.Answer.{Answer}
+use Rattle.drag_sheet.specs.Calls.{Answer, Call, replace, insert, remove, set_column, ignite, burnout, arguments_test, scope, after, call_test, decision, sheet_with, answered, Called, Opened}
 use Rattle.drag_sheet.specs.Build.{trial}
 use Rattle.drag_sheet.specs.Writing.{whole, overwritten}
-use Rattle.drag_sheet.specs.Calls.{Call, replace, insert, remove, set_column, ignite, burnout, arguments_test, scope, after, call_test, decision, sheet_with, answered, Called, Opened}
 use Rattle.drag_sheet.specs.Model.{opened_model, model_decision, moved, model_after, model_decisions}
 use Rattle.drag_sheet.specs.Lists.{Sequence, stop, go, Arrays, Matches, Agrees, FromOpen}
 use Rattle.drag_sheet.proofs.Overwritten.{Holds, holds_build, whole_holds, keeps}
@@ -34,7 +32,7 @@ use Rattle.drag_sheet.proofs.CallLaws.{Ended, accepted, refusal, ended, shown, l
 -- what a sheet and its cells keep through every call; C is the number of columns, `lent` the cells as they were lent
 record Kept (lent : List Float) (C : ℕ) (sheet : Sheet) (xs : List Float) : Type 0 where
   pub holds : Holds (contents_of sheet) xs
-  pub tried : trial (contents_of sheet) ≡ Passed
+  pub tried : trial (contents_of sheet) ≡ Ok tt
   pub width : sheet.settings.count ≡ C
   pub arrays : Arrays sheet
   pub few : sheet.design.count ≤ most_parts
@@ -54,8 +52,8 @@ same_decision lent C sheet xs call k =
     ∙ rw (parts_long lent C sheet xs k, k.long)
   where
     by : (d : Check) → call_test call sheet (length xs) ≡ d → decision call sheet (length xs) ≡ (call_test call sheet (length xs) then trial (after call sheet))
-    by (Failed e) p = rw p
-    by Passed p =
+    by (Err e) p = rw p
+    by (Ok _) p =
         let f = call_facts call sheet (length xs) p in
         let b = bounds call sheet.settings sheet.design.count f.arguments in
         rw p (narrow call (contents_of sheet) (subst (Bounds call sheet.settings) (sym (parts_long lent C sheet xs k)) b) k.tried)
@@ -82,7 +80,7 @@ arrays_after call sheet z few = record { machs = machs call; reynolds = reynolds
     slots : length ((after call sheet).parts ++ drop (length (after call sheet).parts) sheet.design.parts) ≡ most_parts
     slots = simp (length-append, length-drop) (omega (arith, z.slots))
 
-kept : (lent : List Float) (C : ℕ) (sheet : Sheet) (xs : List Float) (call : Call) → Kept lent C sheet xs → decision call sheet (length xs) ≡ Passed
+kept : (lent : List Float) (C : ℕ) (sheet : Sheet) (xs : List Float) (call : Call) → Kept lent C sheet xs → decision call sheet (length xs) ≡ Ok tt
     → Kept lent C (sheet_with (after call sheet) sheet) (overwritten (scope call (after call sheet)) (after call sheet) xs)
 kept lent C sheet xs call k p =
     let a = shown call sheet xs k.arrays.slots p in
@@ -126,25 +124,25 @@ runs lent C {sheet} {last} {xs} k (go {ys} {call} {calls} {r} c rest) =
 
 -- open's outcome is its test's, and refused it leaves the cells
 open_outcome : (d : Check) (sheet : Sheet) → (answered d sheet sheet).outcome ≡ d
-open_outcome Passed sheet = refl
-open_outcome (Failed e) sheet = refl
+open_outcome (Ok _) sheet = refl
+open_outcome (Err e) sheet = refl
 
 outcome_of : (s : Settings) (xs : List Float) (r : Answer) (ys : List Float) → Opened s xs r ys → r.outcome ≡ settings_test s (length xs)
 outcome_of s xs r ys o = ap (λ (q : Answer). q.outcome) o.answer ∙ open_outcome (settings_test s (length xs)) (blank s)
 
-open_refused : (s : Settings) (xs : List Float) (r : Answer) (ys : List Float) (e : AeroError) → Opened s xs r ys → r.outcome ≡ Failed e → (r.sheet ≡ blank s) × (ys ≡ xs)
+open_refused : (s : Settings) (xs : List Float) (r : Answer) (ys : List Float) (e : AeroError) → Opened s xs r ys → r.outcome ≡ Err e → (r.sheet ≡ blank s) × (ys ≡ xs)
 open_refused s xs r ys e o f =
     let d = sym (outcome_of s xs r ys o) ∙ f in
-    let e : r ≡ record { outcome = Failed e; sheet = blank s } = o.answer ∙ rw d in
+    let e : r ≡ record { outcome = Err e; sheet = blank s } = o.answer ∙ rw d in
     (ap (λ (q : Answer). q.sheet) e, o.left ∙ rw d)
 
 opens : (s : Settings) (xs : List Float) (r : Answer) (ys : List Float) → length s.machs ≡ most_columns → length s.reynolds ≡ most_columns
-    → Opened s xs r ys → r.outcome ≡ Passed → Kept xs s.count r.sheet ys × (r.sheet ≡ blank s)
+    → Opened s xs r ys → r.outcome ≡ Ok tt → Kept xs s.count r.sheet ys × (r.sheet ≡ blank s)
 opens s xs r ys m n o a =
     let p = sym (outcome_of s xs r ys o) ∙ a in
     let f = settings_facts s (length xs) p in
     let c = contents_of (blank s) in
-    let e : r ≡ record { outcome = Passed; sheet = blank s } = o.answer ∙ rw p in
+    let e : r ≡ record { outcome = Ok tt; sheet = blank s } = o.answer ∙ rw p in
     let l : ys ≡ overwritten whole c xs = o.left ∙ rw p in
     let g = keeps c xs f.1 whole tt in
     let k : Kept xs s.count (blank s) (overwritten whole c xs) = record {

@@ -1,5 +1,8 @@
 -- Once a sheet's tests pass, nothing but a curve refuses: friction, form factor and base are numbers at every column, and a row that can't be built is that of a part
 -- wider than the one before it whose curve can't be made. The same of the contents that a call leaves (`sheet_only_curves`).
+use Rattle.std.specs.Prelude.{Some, Option, Ok, None, Err}
+use Rattle.drag_sheet.specs.Formulas.{Prepared}
+use Rattle.nose_drag.specs.Curves.{new_curve, Curve}
 use mathlib.Core.Path.{◌≡◌, refl, sym, ap, ◌∙◌}
 use mathlib.Core.Logic.{⊎_elim}
 use mathlib.Core.Bool.{Bool, true, false, cond}
@@ -16,8 +19,6 @@ use Rattle.elementary.specs.Tests.{between}
 use Rattle.elementary.specs.Constants.{0·0, 0·5, 1·0}
 use Rattle.aero_error.specs.declared.AeroError.{AeroError}
 use Rattle.aero_error.specs.declared.Rule.TheVariants.{TooManyColumns, DesignFull}
-use Rattle.aero_error.specs.declared.Check.TheVariants.{Passed, Failed}
-use Rattle.aero_error.specs.declared.Coefficient.TheVariants.{Value}
 use Rattle.aero_error.specs.Checks.{dimension, unless, up_to}
 use Rattle.aero_error.specs.CheckLaws.{both_passed, required_passed, up_each, up_all, up_same}
 use Rattle.drag.specs.Friction.{mach_checked, flow_checked, limited_friction, compressible, skin_friction_coefficient, body_friction_form_factor}
@@ -25,12 +26,7 @@ use Rattle.drag.specs.Pressure.{base_drag, base_drag_coefficient}
 use Rattle.drag.specs.Answered.{limits, form_answered, base_answered, boattail_answered}
 use Rattle.drag.proofs.Answered.{friction_answered}
 use Rattle.nose_drag.specs.declared.curve.PressureDragCurve.{PressureDragCurve}
-use Rattle.nose_drag.specs.declared.builder.Curve.{Curve}
-use Rattle.nose_drag.specs.declared.builder.Curve.TheVariants.{Built, Refused as NotBuilt}
-use Rattle.nose_drag.specs.Curves.{new_curve}
 use Rattle.nose_drag.specs.Answered.{curve_answered}
-use Rattle.sheet_data.specs.declared.PartRoughness.{PartRoughness}
-use Rattle.sheet_data.specs.declared.PartRoughness.TheVariants.{OfSettings, Own}
 use Rattle.sheet_data.specs.declared.Part.{Part}
 use Rattle.sheet_data.specs.declared.Sheet.{Sheet}
 use Rattle.sheet_data.specs.Layout.{most_parts, most_columns}
@@ -38,8 +34,6 @@ use Rattle.sheet_data.specs.Contents.{Contents, contents_of, part_at, fore_at, m
 use Rattle.sheet_data.specs.Tests.{0·001, 100·0, in_interval, body_test, columns_test, settings_test, nozzle_test, part_test, parts_test, sheet_test}
 use Rattle.sheet_data.proofs.Held.{inside, given_own}
 use Rattle.drag_sheet.specs.declared.part.Row.TheVariants.{Widening, Narrowing, Level}
-use Rattle.drag_sheet.specs.declared.part.Prepared.{Prepared}
-use Rattle.drag_sheet.specs.declared.part.Prepared.TheVariants.{Ready, Refused as NotReady}
 use Rattle.drag_sheet.specs.Formulas.{area_ratio, with_curve, prepared_of, cell_of, cell_from, ready_test, made_test, roughness_of, last_diameter}
 use Rattle.drag_sheet.specs.Build.{prepared_at, row_test, trial}
 use Rattle.drag_sheet.specs.Calls.{Call, replace, insert, remove, set_column, ignite, burnout, applied, arguments_test, row_test_where, column_trial, tries, after, call_test, decision}
@@ -53,15 +47,15 @@ use Rattle.drag_sheet.proofs.TestsKept.{zero_passes, Tested, tested_after}
 record Sized (p : Part) : Type 0 where
   pub long : between 0·0 p.length 100·0 ≡ true
   pub aft : between 0·0 p.aft_diameter 100·0 ≡ true
-  pub own : (x : Float) → p.roughness ≡ Own x → between 0·0 x 1·0 ≡ true
+  pub own : (x : Float) → p.roughness ≡ Some x → between 0·0 x 1·0 ≡ true
 
 record Ranges (c : Contents) : Type 0 where
   pub roughness : between 0·0 c.settings.roughness 1·0 ≡ true
   pub fineness : dimension c.settings.body_fineness false ≡ true
-  pub columns : (k : ℕ) → k < c.settings.count → flow_checked (mach_at c.settings k) (reynolds_at c.settings k) ≡ Passed
+  pub columns : (k : ℕ) → k < c.settings.count → flow_checked (mach_at c.settings k) (reynolds_at c.settings k) ≡ Ok tt
   pub parts : (i : ℕ) → i < length c.parts → Sized (part_at c.parts i)
 
-sized : (p : Part) → part_test p ≡ Passed → Sized p
+sized : (p : Part) → part_test p ≡ Ok tt → Sized p
 sized p e =
     let a = both_passed (in_interval 0·0 p.length 100·0) _ e in
     let b = both_passed (in_interval 0·0 p.aft_diameter 100·0) _ a.second in
@@ -95,17 +89,17 @@ roughness_at c i = roughness_of (part_at c.parts i).roughness c.settings.roughne
 -- at a column: each part's skin friction, form factor and base drag are these numbers
 pub record Answered (c : Contents) (k : ℕ) : Type 0 where
   pub friction : (i : ℕ) → i < length c.parts → skin_friction_coefficient (reynolds_at c.settings k) (roughness_at c i) (mach_at c.settings k)
-      ≡ Value (compressible (limits (roughness_at c i) (reynolds_at c.settings k)) (limited_friction (roughness_at c i)) (reynolds_at c.settings k) (mach_at c.settings k))
-  pub form : body_friction_form_factor c.settings.body_fineness ≡ Value (1·0 ⊕ 0·5 ⊘ c.settings.body_fineness)
-  pub base : base_drag_coefficient (mach_at c.settings k) ≡ Value (base_drag (mach_at c.settings k))
+      ≡ Ok (compressible (limits (roughness_at c i) (reynolds_at c.settings k)) (limited_friction (roughness_at c i)) (reynolds_at c.settings k) (mach_at c.settings k))
+  pub form : body_friction_form_factor c.settings.body_fineness ≡ Ok (1·0 ⊕ 0·5 ⊘ c.settings.body_fineness)
+  pub base : base_drag_coefficient (mach_at c.settings k) ≡ Ok (base_drag (mach_at c.settings k))
 
-passed_at : (c : Contents) → Ranges c → (k : ℕ) → k < c.settings.count → mach_checked (mach_at c.settings k) ≡ Passed
+passed_at : (c : Contents) → Ranges c → (k : ℕ) → k < c.settings.count → mach_checked (mach_at c.settings k) ≡ Ok tt
 passed_at c r k h = (both_passed (mach_checked (mach_at c.settings k)) _ (r.columns k h)).first
 
 -- its own, or the settings' one
-rough_inside : (k : Float) (r : PartRoughness) → between 0·0 k 1·0 ≡ true → ((x : Float) → r ≡ Own x → between 0·0 x 1·0 ≡ true) → between 0·0 (roughness_of r k) 1·0 ≡ true
-rough_inside k OfSettings h own = h
-rough_inside k (Own x) h own = own x refl
+rough_inside : (k : Float) (r : Option Float) → between 0·0 k 1·0 ≡ true → ((x : Float) → r ≡ Some x → between 0·0 x 1·0 ≡ true) → between 0·0 (roughness_of r k) 1·0 ≡ true
+rough_inside k None h own = h
+rough_inside k (Some x) h own = own x refl
 
 pub body_answered : (c : Contents) (cells : ℕ) → Tested c cells → (k : ℕ) → k < c.settings.count → Answered c k
 body_answered c cells t k h =
@@ -120,10 +114,10 @@ body_answered c cells t k h =
 
 -- how a part's row is prepared: one that widens has a curve or its refusal, one that narrows and one that does neither have none
 pub data Way (f : Float) (part : Part) : Prepared → Type 0 where
-  widens : {curve : PressureDragCurve} {area : Float} → Way f part (Ready (Widening curve area))
-  refused : {e : AeroError} → (f ≺ part.aft_diameter) ≡ true → new_curve part.shape (part.length ⊘ (part.aft_diameter ⊖ f)) part.joint_angle ≡ NotBuilt e → Way f part (NotReady e)
-  narrows : {area : Float} → (part.aft_diameter ≺ f) ≡ true → Way f part (Ready (Narrowing part.length f part.aft_diameter area))
-  level : Way f part (Ready Level)
+  widens : {curve : PressureDragCurve} {area : Float} → Way f part (Ok (Widening curve area))
+  refused : {e : AeroError} → (f ≺ part.aft_diameter) ≡ true → new_curve part.shape (part.length ⊘ (part.aft_diameter ⊖ f)) part.joint_angle ≡ Err e → Way f part (Err e)
+  narrows : {area : Float} → (part.aft_diameter ≺ f) ≡ true → Way f part (Ok (Narrowing part.length f part.aft_diameter area))
+  level : Way f part (Ok Level)
 
 module _ (D f : Float) (part : Part) where
   abbrev d : Float
@@ -133,11 +127,11 @@ module _ (D f : Float) (part : Part) where
   curve_of = new_curve part.shape (part.length ⊘ (part.aft_diameter ⊖ f)) part.joint_angle
 
   built : (curve : Curve) → (f ≺ part.aft_diameter) ≡ true → curve_of ≡ curve → Way f part (with_curve curve (area_ratio d f D))
-  built (Built curve) w q = widens
-  built (NotBuilt e) w q = refused w q
+  built (Ok curve) w q = widens
+  built (Err e) w q = refused w q
 
   wide : (less more : Bool) → (part.aft_diameter ≺ f) ≡ less → (f ≺ part.aft_diameter) ≡ more
-      → Way f part (cond more (with_curve curve_of (area_ratio d f D)) (cond less (Ready (Narrowing part.length f d (area_ratio f d D))) (Ready Level)))
+      → Way f part (cond more (with_curve curve_of (area_ratio d f D)) (cond less (Ok (Narrowing part.length f d (area_ratio f d D))) (Ok Level)))
   wide less true l m = built curve_of m refl
   wide true false l m = narrows l
   wide false false l m = level
@@ -151,7 +145,7 @@ unfolding of_bits
 hundred_finite = refl
 
 -- a row that is ready is made at every Mach number
-made : {f : Float} {part : Part} {p : Prepared} (M : Float) → Way f part p → between 0·0 f 100·0 ≡ true → Sized part → mach_checked M ≡ Passed → ready_test p ≡ Passed → made_test (cell_from p M) ≡ Passed
+made : {f : Float} {part : Part} {p : Prepared} (M : Float) → Way f part p → between 0·0 f 100·0 ≡ true → Sized part → mach_checked M ≡ Ok tt → ready_test p ≡ Ok tt → made_test (cell_from p M) ≡ Ok tt
 unfolding cell_of
 made M (widens {curve}) fore s m h = rw (curve_answered curve M m)
 made M (refused w q) fore s m h = h
@@ -170,7 +164,7 @@ module _ (c : Contents) (cells : ℕ) (tested : Tested c cells) where
   pub last_inside : between 0·0 (last_diameter c) 100·0 ≡ true
   last_inside = fore_inside c (ranges c cells tested) (length c.parts) (omega arith)
 
-  made_at : (i k : ℕ) → i < length c.parts → k < c.settings.count → ready_test (prepared_at c i) ≡ Passed → made_test (cell_from (prepared_at c i) (mach_at c.settings k)) ≡ Passed
+  made_at : (i k : ℕ) → i < length c.parts → k < c.settings.count → ready_test (prepared_at c i) ≡ Ok tt → made_test (cell_from (prepared_at c i) (mach_at c.settings k)) ≡ Ok tt
   made_at i k h l =
       let r = ranges c cells tested in
       made (mach_at c.settings k) (way c.settings.reference_diameter (fore_at c.parts i) (part_at c.parts i)) (fore_inside c r i (omega arith)) (r.parts i h) (passed_at c r k l)
@@ -194,30 +188,30 @@ module _ (c : Contents) (cells : ℕ) (tested : Tested c cells) where
 pub record CurveRefused (c : Contents) (e : AeroError) (i : ℕ) : Type 0 where
   pub inside : i < length c.parts
   pub widens : (fore_at c.parts i ≺ (part_at c.parts i).aft_diameter) ≡ true
-  pub curve : new_curve (part_at c.parts i).shape ((part_at c.parts i).length ⊘ ((part_at c.parts i).aft_diameter ⊖ fore_at c.parts i)) (part_at c.parts i).joint_angle ≡ NotBuilt e
+  pub curve : new_curve (part_at c.parts i).shape ((part_at c.parts i).length ⊘ ((part_at c.parts i).aft_diameter ⊖ fore_at c.parts i)) (part_at c.parts i).joint_angle ≡ Err e
 
-refusal : {f : Float} {part : Part} {p : Prepared} {e : AeroError} → Way f part p → ready_test p ≡ Failed e
-    → ((f ≺ part.aft_diameter) ≡ true) × (new_curve part.shape (part.length ⊘ (part.aft_diameter ⊖ f)) part.joint_angle ≡ NotBuilt e)
+refusal : {f : Float} {part : Part} {p : Prepared} {e : AeroError} → Way f part p → ready_test p ≡ Err e
+    → ((f ≺ part.aft_diameter) ≡ true) × (new_curve part.shape (part.length ⊘ (part.aft_diameter ⊖ f)) part.joint_angle ≡ Err e)
 refusal widens h = never h refl
-refusal {e = e} (refused {e = x} w q) h = let same : x ≡ e = cc in (w, q ∙ ap NotBuilt same)
+refusal {e = e} (refused {e = x} w q) h = let same : x ≡ e = cc in (w, q ∙ ap Err same)
 refusal (narrows n) h = never h refl
 refusal level h = never h refl
 
 -- a row isn't ready exactly where its curve is refused
-pub ready_refused : (c : Contents) (e : AeroError) (i : ℕ) → i < length c.parts → ready_test (prepared_at c i) ≡ Failed e → CurveRefused c e i
+pub ready_refused : (c : Contents) (e : AeroError) (i : ℕ) → i < length c.parts → ready_test (prepared_at c i) ≡ Err e → CurveRefused c e i
 ready_refused c e i h q =
     let r = refusal (way c.settings.reference_diameter (fore_at c.parts i) (part_at c.parts i)) q in
     record { inside = h; widens = r.0; curve = r.1 }
 
-pub refused_ready : (c : Contents) (e : AeroError) (i : ℕ) → CurveRefused c e i → ready_test (prepared_at c i) ≡ Failed e
+pub refused_ready : (c : Contents) (e : AeroError) (i : ℕ) → CurveRefused c e i → ready_test (prepared_at c i) ≡ Err e
 unfolding prepared_of
 refused_ready c e i r = rw (r.widens, r.curve)
 
-some_refused : (c : Contents) (e : AeroError) → up_to (length c.parts) (λ i. ready_test (prepared_at c i)) ≡ Failed e → (i : ℕ) × CurveRefused c e i
+some_refused : (c : Contents) (e : AeroError) → up_to (length c.parts) (λ i. ready_test (prepared_at c i)) ≡ Err e → (i : ℕ) × CurveRefused c e i
 some_refused c e h = let r = up_refused _ (length c.parts) h in (r.0, ready_refused c e r.0 r.1 r.2)
 
 -- whatever a call tries
-tries_refused : (call : Call) (c : Contents) (cells : ℕ) (e : AeroError) → Tested (applied call c) cells → Bounds call c.settings (length c.parts) → tries call (applied call c) ≡ Failed e
+tries_refused : (call : Call) (c : Contents) (cells : ℕ) (e : AeroError) → Tested (applied call c) cells → Bounds call c.settings (length c.parts) → tries call (applied call c) ≡ Err e
     → (i : ℕ) × CurveRefused (applied call c) e i
 unfolding tries
 tries_refused (replace place p) c cells e t b h =
@@ -228,7 +222,7 @@ tries_refused (replace place p) c cells e t b h =
     (λ next. next_row (ltb (place + 1) (length new.parts)) refl next.1)
     (then_failed (row_test new place) (row_test_where new (place + 1)) h)
   where
-    next_row : (b : Bool) → ltb (place + 1) (length (applied (replace place p) c).parts) ≡ b → cond b (row_test (applied (replace place p) c) (place + 1)) Passed ≡ Failed e
+    next_row : (b : Bool) → ltb (place + 1) (length (applied (replace place p) c).parts) ≡ b → cond b (row_test (applied (replace place p) c) (place + 1)) (Ok tt) ≡ Err e
         → (i : ℕ) × CurveRefused (applied (replace place p) c) e i
     next_row true l q = let m = ltb-true _ _ l in (place + 1, ready_refused _ e (place + 1) m (sym (row_ready _ cells t (place + 1) m) ∙ q))
     next_row false l q = never q refl
@@ -239,12 +233,12 @@ tries_refused (ignite n) c cells e t b h = never h refl
 tries_refused burnout c cells e t b h = never h refl
 
 -- a call on contents that passed, with arguments that passed, is refused by nothing but a curve
-pub only_curves : (call : Call) (c : Contents) (cells : ℕ) (e : AeroError) → Tested c cells → arguments_test call c.settings (length c.parts) ≡ Passed → tries call (applied call c) ≡ Failed e
+pub only_curves : (call : Call) (c : Contents) (cells : ℕ) (e : AeroError) → Tested c cells → arguments_test call c.settings (length c.parts) ≡ Ok tt → tries call (applied call c) ≡ Err e
     → (i : ℕ) × CurveRefused (applied call c) e i
 only_curves call c cells e t a h = tries_refused call c cells e (tested_after call c cells t a) (bounds call c.settings (length c.parts) a) h
 
 -- and so is a call on a sheet, past its tests
-pub sheet_only_curves : (call : Call) (sheet : Sheet) (cells : ℕ) (e : AeroError) → length sheet.design.parts ≡ most_parts → call_test call sheet cells ≡ Passed → decision call sheet cells ≡ Failed e
+pub sheet_only_curves : (call : Call) (sheet : Sheet) (cells : ℕ) (e : AeroError) → length sheet.design.parts ≡ most_parts → call_test call sheet cells ≡ Ok tt → decision call sheet cells ≡ Err e
     → (i : ℕ) × CurveRefused (after call sheet) e i
 sheet_only_curves call sheet cells e slots ok h =
     let f = call_facts call sheet cells ok in

@@ -1,5 +1,8 @@
 -- Refusals 8 and 9 by laws of their own: 8 is given exactly where the place or the column isn't there, 9 exactly where 16 parts stand and one more is put in, or a sheet
 -- is given with more than 16; of every call, sheet and number of cells, and of a model of 16 parts at most. No test of settings, parts or rows gives either (`Other`).
+use Rattle.std.specs.Prelude.{Ok, Err}
+use Rattle.aero_error.specs.Checks.{required, dimension, ◌then◌, unless, ◌and_then◌, ◌for_value◌, Check}
+use Rattle.drag_sheet.specs.Formulas.{Prepared}
 use mathlib.Core.Path.{◌≡◌, refl, ap}
 use mathlib.Core.Logic.{◌↔◌, ◌⊎◌, inl, inr, ⊎_elim}
 use mathlib.Core.Bool.{true, ◌&&◌}
@@ -16,11 +19,7 @@ use Rattle.aero_error.specs.declared.Quantity.TheVariants.{BoattailLength, Boatt
 use Rattle.aero_error.specs.declared.AeroError.{AeroError}
 use Rattle.aero_error.specs.declared.AeroError.TheVariants.{Domain, Broken}
 use Rattle.aero_error.specs.declared.Rule.TheVariants.{NoSuchPlace, DesignFull}
-use Rattle.aero_error.specs.declared.Check.{Check}
-use Rattle.aero_error.specs.declared.Check.TheVariants.{Passed, Failed}
-use Rattle.aero_error.specs.declared.Coefficient.TheVariants.{Value}
 use Rattle.aero_error.specs.Refusals.{number_of_rule}
-use Rattle.aero_error.specs.Checks.{required, dimension, ◌then◌, unless, ◌and_then◌, ◌for_value◌}
 use Rattle.aero_error.specs.CheckLaws.{both_passed, unless_passed, then_assoc}
 use Rattle.drag.specs.Friction.{mach_checked}
 use Rattle.drag.specs.Pressure.{base_drag_coefficient, boattail_factor}
@@ -32,7 +31,6 @@ use Rattle.sheet_data.specs.declared.Sheet.{Sheet}
 use Rattle.sheet_data.specs.Layout.{most_parts}
 use Rattle.sheet_data.specs.Contents.{Contents, contents_of, part_at, fore_at, mach_at}
 use Rattle.sheet_data.specs.Tests.{100·0, settings_test, nozzle_test, parts_test, sheet_test}
-use Rattle.drag_sheet.specs.declared.part.Prepared.{Prepared}
 use Rattle.drag_sheet.specs.Formulas.{scaled_by, cell_of, cell_from, ready_test, made_test}
 use Rattle.drag_sheet.specs.Build.{prepared_at, row_test, trial}
 use Rattle.drag_sheet.specs.Calls.{Call, replace, insert, remove, set_column, ignite, burnout, arguments_test, column_trial, tries, after, decision, applied}
@@ -44,7 +42,7 @@ use Rattle.drag_sheet.proofs.Absent.{Other, other_then, other_up, other_unless, 
 -- ---- rows
 
 module _ (n : ℕ) (low : 8 ≤ n) (high : n ≤ 9) where
-  other_curve : (e : AeroError) → CurveRefusal e → Other n (Failed e)
+  other_curve : (e : AeroError) → CurveRefusal e → Other n (Err e)
   other_curve (Domain what x) h = λ q. omega arith
   other_curve (Broken rule) h = λ q. ⊎_elim (λ r. let two = ap number_of_rule r in omega arith) (λ r. let three = ap number_of_rule r in omega arith) h
 
@@ -55,15 +53,15 @@ module _ (n : ℕ) (low : 8 ≤ n) (high : n ≤ 9) where
   other_ready level = tt
 
   -- a number once its tests pass
-  other_scaled : (check : Check) (v area : Float) → Other n check → Other n (made_test (scaled_by area (check and_then Value v)))
-  other_scaled Passed v area h = tt
-  other_scaled (Failed e) v area h = h
+  other_scaled : (check : Check) (v area : Float) → Other n check → Other n (made_test (scaled_by area (check and_then Ok v)))
+  other_scaled (Ok _) v area h = tt
+  other_scaled (Err e) v area h = h
 
   other_product : (a b : Check) (v w area : Float) → Other n a → Other n b
-      → Other n (made_test (scaled_by area ((a and_then Value v) for_value λ x. (b and_then Value w) for_value λ y. Value (x ⊗ y))))
-  other_product Passed Passed v w area h k = tt
-  other_product Passed (Failed e) v w area h k = k
-  other_product (Failed e) b v w area h k = h
+      → Other n (made_test (scaled_by area ((a and_then Ok v) for_value λ x. (b and_then Ok w) for_value λ y. Ok (x ⊗ y))))
+  other_product (Ok _) (Ok _) v w area h k = tt
+  other_product (Ok _) (Err e) v w area h k = k
+  other_product (Err e) b v w area h k = h
 
   -- the tests of a boattail
   abbrev boattail_test : Float → Float → Float → Check
@@ -108,7 +106,7 @@ module _ (call : Call) (c : Contents) (cells count : ℕ) (rest : Check) where
   abbrev s : Settings
   s = c.settings
 
-  eight : Other 8 rest → ((sheet_test c cells count then arguments_test call c.settings count then rest) ≡ Failed (Broken NoSuchPlace)) ↔ ((sheet_test c cells count ≡ Passed) × Absent call c.settings count)
+  eight : Other 8 rest → ((sheet_test c cells count then arguments_test call c.settings count then rest) ≡ Err (Broken NoSuchPlace)) ↔ ((sheet_test c cells count ≡ Ok tt) × Absent call c.settings count)
   unfolding sheet_test
   eight other = (
     (λ e.
@@ -124,14 +122,14 @@ module _ (call : Call) (c : Contents) (cells count : ℕ) (rest : Check) where
     (λ h. rw (h.0, (arguments_8 call s count).1 h.1)),
   )
 
-  few : sheet_test c cells count ≡ Passed → count ≤ most_parts
+  few : sheet_test c cells count ≡ Ok tt → count ≤ most_parts
   unfolding sheet_test
   few h =
       let a = both_passed (settings_test s cells) _ h in
       let b = both_passed (nozzle_test c.nozzle) _ a.second in
       ltb-false most_parts count (unless_passed _ DesignFull (both_passed (unless (ltb most_parts count) DesignFull) _ b.second).first)
 
-  over : sheet_test c cells count ≡ Failed (Broken DesignFull) → (settings_test c.settings cells ≡ Passed) × (nozzle_test c.nozzle ≡ Passed) × (most_parts < count)
+  over : sheet_test c cells count ≡ Err (Broken DesignFull) → (settings_test c.settings cells ≡ Ok tt) × (nozzle_test c.nozzle ≡ Ok tt) × (most_parts < count)
   unfolding sheet_test
   over h =
       ⊎_elim (λ a. apart (other_settings 9 (omega arith) (omega arith) s cells) refl a)
@@ -145,8 +143,8 @@ module _ (call : Call) (c : Contents) (cells count : ℕ) (rest : Check) where
       (then_failed (nozzle_test c.nozzle) _ b.1))
       (then_failed (settings_test s cells) _ h)
 
-  nine : Other 9 rest → ((sheet_test c cells count then arguments_test call c.settings count then rest) ≡ Failed (Broken DesignFull))
-      ↔ (((settings_test c.settings cells ≡ Passed) × (nozzle_test c.nozzle ≡ Passed) × (most_parts < count)) ⊎ ((sheet_test c cells count ≡ Passed) × Full call count))
+  nine : Other 9 rest → ((sheet_test c cells count then arguments_test call c.settings count then rest) ≡ Err (Broken DesignFull))
+      ↔ (((settings_test c.settings cells ≡ Ok tt) × (nozzle_test c.nozzle ≡ Ok tt) × (most_parts < count)) ⊎ ((sheet_test c cells count ≡ Ok tt) × Full call count))
   unfolding sheet_test
   nine other = (
     (λ e.
@@ -166,21 +164,21 @@ module _ (call : Call) (sheet : Sheet) (cells : ℕ) where
   assoc : decision call sheet cells ≡ (test then arguments_test call sheet.settings sheet.design.count then tries call (after call sheet))
   assoc = then_assoc test _ _
 
-  pub no_such_place : (decision call sheet cells ≡ Failed (Broken NoSuchPlace))
-      ↔ ((sheet_test (contents_of sheet) cells sheet.design.count ≡ Passed) × Absent call sheet.settings sheet.design.count)
+  pub no_such_place : (decision call sheet cells ≡ Err (Broken NoSuchPlace))
+      ↔ ((sheet_test (contents_of sheet) cells sheet.design.count ≡ Ok tt) × Absent call sheet.settings sheet.design.count)
   no_such_place = rw assoc (eight call (contents_of sheet) cells sheet.design.count _ (other_tries 8 (omega arith) (omega arith) call (after call sheet)))
 
-  pub design_full : (decision call sheet cells ≡ Failed (Broken DesignFull))
-      ↔ (((settings_test sheet.settings cells ≡ Passed) × (nozzle_test sheet.nozzle_diameter ≡ Passed) × (16 < sheet.design.count))
-      ⊎ ((sheet_test (contents_of sheet) cells sheet.design.count ≡ Passed) × Full call sheet.design.count))
+  pub design_full : (decision call sheet cells ≡ Err (Broken DesignFull))
+      ↔ (((settings_test sheet.settings cells ≡ Ok tt) × (nozzle_test sheet.nozzle_diameter ≡ Ok tt) × (16 < sheet.design.count))
+      ⊎ ((sheet_test (contents_of sheet) cells sheet.design.count ≡ Ok tt) × Full call sheet.design.count))
   design_full = rw assoc (nine call (contents_of sheet) cells sheet.design.count _ (other_tries 9 (omega arith) (omega arith) call (after call sheet)))
 
 -- the hand copy's answers, 9 where it has 16 parts at most
 module _ (cells : ℕ) (call : Call) (m : Contents) where
-  pub model_no_such_place : (model_decision cells call m ≡ Failed (Broken NoSuchPlace)) ↔ ((sheet_test m cells (length m.parts) ≡ Passed) × Absent call m.settings (length m.parts))
+  pub model_no_such_place : (model_decision cells call m ≡ Err (Broken NoSuchPlace)) ↔ ((sheet_test m cells (length m.parts) ≡ Ok tt) × Absent call m.settings (length m.parts))
   model_no_such_place = eight call m cells (length m.parts) _ (other_trial 8 (omega arith) (omega arith) (applied call m))
 
-  pub model_design_full : length m.parts ≤ 16 → (model_decision cells call m ≡ Failed (Broken DesignFull)) ↔ ((sheet_test m cells (length m.parts) ≡ Passed) × Full call (length m.parts))
+  pub model_design_full : length m.parts ≤ 16 → (model_decision cells call m ≡ Err (Broken DesignFull)) ↔ ((sheet_test m cells (length m.parts) ≡ Ok tt) × Full call (length m.parts))
   model_design_full few =
       let e = nine call m cells (length m.parts) _ (other_trial 9 (omega arith) (omega arith) (applied call m)) in
       ((λ h. ⊎_elim (λ a. absurd (omega (arith, a.2))) (λ b. b) (e.0 h)), (λ h. e.1 (inr h)))

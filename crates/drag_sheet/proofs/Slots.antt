@@ -1,62 +1,63 @@
--- The slots of a design as insert and remove fill them: from the front with the new parts, one slot after the other (`filled_more`).
-use mathlib.Core.Path.{◌≡◌, sym, ap, ◌∙◌}
-use mathlib.Core.List.{List, ◌∷◌, ◌++◌, append_assoc}
-use Prim.Native.Nat.{ℕ, suc, ◌+◌, ◌-◌, ◌≤◌, ◌<◌}
-use native.Mathlib.Numerals.{add-one}
-use native.Mathlib.Omega.{arith}
-use lib.ListN.{length, get_or, take, drop, set, length-append, length-drop, take-append-drop}
-use lib.Seq.{take-suc, set_split, take_at, take-add, take-take, drop_at, drop-drop, length-take-le, get_or-append-add, get_or-drop}
+-- The slots of a design as insert and remove leave them: some parts copied one slot up or down.
+use Rattle.std.specs.Prelude.{◌≡◌, List, [], ◌∷◌, ◌++◌, ℕ, suc, ◌+◌, ◌-◌, ◌≤◌, ◌<◌, length, take, drop, set}
+use Rattle.std.proofs.Common.{sym, ap, ◌∙◌, append_assoc, add-one, arith, length-take-le, length-append, length-drop}
+use Rattle.std.proofs.lemmas.List.{drop-take, take-append-drop}
+use lib.Seq.{set_split, take_at, take-take, drop_at, drop-drop}
 use Rattle.sheet_data.specs.declared.Part.{Part}
 use Rattle.drag_sheet.specs.Calls.{insert_at, remove_at}
 
-module _ {A : Type 0} where
-  -- one more element of `target` over `source`
-  pub filled_more : (target source : List A) (i : ℕ) (v d : A) → i < length target → i < length source → v ≡ get_or target i d
-      → set (take i target ++ drop i source) i v ≡ take (i + 1) target ++ drop (i + 1) source
-  filled_more target source i v d a b e =
-      let front = take i target in
-      let l = front ++ drop i source in
-      let w : length front ≡ i = length-take-le i target (omega arith) in
-      let long : i < length l = rw (length-append front (drop i source), w, length-drop i source) (omega arith) in
-      let rest : drop (suc i) l ≡ drop (suc i) source =
-      ap (λ (k : ℕ). drop k l) (sym (add-one i)) ∙ sym (drop-drop 1 i l) ∙ ap (drop 1) (drop_at front (drop i source) i w) ∙ drop-drop 1 i source ∙ ap (λ (k : ℕ). drop k source) (add-one i) in
-      set_split l i v long ∙ rw (take_at front (drop i source) i w, rest, add-one i, take-suc target i d a, e, append_assoc)
+-- ---- how many parts there are then
 
--- ---- a part put in: from its place on each slot takes the one before
-module _ (ps : List Part) (place : ℕ) (p : Part) (h : place ≤ length ps) where
-  front_long : length (take place ps) ≡ place
-  front_long = length-take-le place ps h
+pub inserted_long : (ps : List Part) (place : ℕ) (p : Part) → place ≤ length ps → length (insert_at place p ps) ≡ length ps + 1
+inserted_long ps place p h = rw (length-append (take place ps) (p ∷ drop place ps), length-take-le place ps h, length-drop place ps) (omega arith)
 
-  pub inserted_long : length (insert_at place p ps) ≡ length ps + 1
-  inserted_long = rw (length-append (take place ps) (p ∷ drop place ps), front_long, length-drop place ps) (omega arith)
+pub removed_long : (ps : List Part) (place : ℕ) → place < length ps → length (remove_at place ps) + 1 ≡ length ps
+removed_long ps place h = rw (length-append (take place ps) (drop (place + 1) ps), length-take-le place ps (omega arith), length-drop (place + 1) ps) (omega arith)
 
-  pub inserted_at : (k : ℕ) (d : Part) → place ≤ k → get_or (insert_at place p ps) (k + 1) d ≡ get_or ps k d
-  inserted_at k d l =
-      let e : k + 1 ≡ length (take place ps) + suc (k - place) = omega (arith, front_long) in
-      let f : place + (k - place) ≡ k = omega arith in
-      rw (e, get_or-append-add (take place ps) (p ∷ drop place ps) (suc (k - place)) d, get_or-drop place ps (k - place) d, f)
+-- ---- the slots
 
-  -- where the loop starts: the part stands in its slot
-  pub inserted_first : (slots : List Part) → length ps < length slots → take (length ps) slots ≡ ps
-      → set slots place p ≡ take (place + 1) (insert_at place p ps) ++ drop (place + 1) slots
-  inserted_first slots l e =
-      let front : take place slots ≡ take place ps = sym (take-take place (length ps) slots h) ∙ ap (take place) e in
-      set_split slots place p (omega arith)
-      ∙ rw (take-add place 1 (insert_at place p ps), take_at (take place ps) (p ∷ drop place ps) place front_long, drop_at (take place ps) (p ∷ drop place ps) place front_long, add-one place, front, append_assoc)
+module _ (slots : List Part) (count place : ℕ) where
+  -- the parts from the place on
+  rest : place ≤ count → drop place (take count slots) ≡ take (count - place) (drop place slots)
+  rest h = let e : count ≡ place + (count - place) = omega arith in ap (λ (n : ℕ). drop place (take n slots)) e ∙ drop-take place (count - place) slots
 
--- ---- a part taken out: from its place on each slot takes the one after
-module _ (ps : List Part) (place : ℕ) (h : place < length ps) where
-  pub removed_long : length (remove_at place ps) + 1 ≡ length ps
-  removed_long = rw (length-append (take place ps) (drop (place + 1) ps), length-take-le place ps (omega arith), length-drop (place + 1) ps) (omega arith)
+  -- the part in its slot, and the parts from there on copied one slot up
+  pub inserted_slots : (p : Part) → place ≤ count → count < length slots
+      → take (place + 1) (set slots place p) ++ (take (count - place) (drop place slots) ++ drop (count + 1 - (place + 1)) (drop (place + 1) (set slots place p)))
+      ≡ insert_at place p (take count slots) ++ drop (count + 1) slots
+  inserted_slots p h l =
+      let S = set slots place p in
+      let T = take place slots in
+      let X = take (count - place) (drop place slots) in
+      let Q = drop (count + 1) slots in
+      let ps = take count slots in
+      let k = count + 1 - (place + 1) in
+      let w : length T ≡ place = length-take-le place slots (omega arith) in
+      let put : S ≡ (T ++ p ∷ []) ++ drop (place + 1) slots = set_split slots place p (omega arith) ∙ rw (add-one place, append_assoc) in
+      let long : length (T ++ p ∷ []) ≡ place + 1 = rw (length-append T (p ∷ []), w) in
+      let last : place + 1 + k ≡ count + 1 = omega arith in
+      ap (λ (s : List Part). take (place + 1) s ++ (X ++ drop k (drop (place + 1) s))) put
+      ∙ ap (λ (f : List Part). f ++ (X ++ drop k (drop (place + 1) ((T ++ p ∷ []) ++ drop (place + 1) slots)))) (take_at (T ++ p ∷ []) (drop (place + 1) slots) (place + 1) long)
+      ∙ ap (λ (r : List Part). (T ++ p ∷ []) ++ (X ++ drop k r)) (drop_at (T ++ p ∷ []) (drop (place + 1) slots) (place + 1) long)
+      ∙ ap (λ (r : List Part). (T ++ p ∷ []) ++ (X ++ r)) (drop-drop k (place + 1) slots ∙ ap (λ (n : ℕ). drop n slots) last)
+      ∙ append_assoc T (p ∷ []) (X ++ Q)
+      ∙ sym (append_assoc T (p ∷ X) Q)
+      ∙ ap (λ (r : List Part). (T ++ (p ∷ r)) ++ Q) (sym (rest h))
+      ∙ ap (λ (t : List Part). (t ++ (p ∷ drop place ps)) ++ Q) (sym (take-take place count slots h))
 
-  pub removed_at : (k : ℕ) (d : Part) → place ≤ k → get_or (remove_at place ps) k d ≡ get_or ps (k + 1) d
-  removed_at k d l =
-      let w : length (take place ps) ≡ place = length-take-le place ps (omega arith) in
-      let e : k ≡ length (take place ps) + (k - place) = omega arith in
-      let f : place + 1 + (k - place) ≡ k + 1 = omega arith in
-      ap (λ j. get_or (remove_at place ps) j d) e ∙ rw (get_or-append-add (take place ps) (drop (place + 1) ps) (k - place) d, get_or-drop (place + 1) ps (k - place) d, f)
-
-  pub removed_first : (slots : List Part) → take (length ps) slots ≡ ps → slots ≡ take place (remove_at place ps) ++ drop place slots
-  removed_first slots e =
-      let front : take place slots ≡ take place ps = sym (take-take place (length ps) slots (omega arith)) ∙ ap (take place) e in
-      sym (rw (take_at (take place ps) (drop (place + 1) ps) place (length-take-le place ps (omega arith)), ← front) (take-append-drop place slots))
+  -- the parts after the place copied one slot down
+  pub removed_slots : place < count → count ≤ length slots
+      → take place slots ++ (take (count - (place + 1)) (drop (place + 1) slots) ++ drop (count - 1 - place) (drop place slots))
+      ≡ remove_at place (take count slots) ++ drop (count - 1) slots
+  removed_slots h l =
+      let T = take place slots in
+      let X = take (count - (place + 1)) (drop (place + 1) slots) in
+      let Q = drop (count - 1) slots in
+      let ps = take count slots in
+      let e : count ≡ place + 1 + (count - (place + 1)) = omega arith in
+      let after : drop (place + 1) ps ≡ X = ap (λ (n : ℕ). drop (place + 1) (take n slots)) e ∙ drop-take (place + 1) (count - (place + 1)) slots in
+      let last : place + (count - 1 - place) ≡ count - 1 = omega arith in
+      ap (λ (r : List Part). T ++ (X ++ r)) (drop-drop (count - 1 - place) place slots ∙ ap (λ (n : ℕ). drop n slots) last)
+      ∙ sym (append_assoc T X Q)
+      ∙ ap (λ (r : List Part). (T ++ r) ++ Q) (sym after)
+      ∙ ap (λ (t : List Part). (t ++ drop (place + 1) ps) ++ Q) (sym (take-take place count slots (omega arith)))

@@ -1,4 +1,6 @@
 -- The functions that fill a row are lent the columns that count: a row over them is the row of the settings.
+use Rattle.std.specs.Prelude.{Ok}
+use Rattle.aero_error.specs.Checks.{up_to, Check}
 use mathlib.Core.Path.{◌≡◌, refl, sym, ap}
 use mathlib.Core.List.{List, ◌∷◌}
 use Prim.Native.Nat.{ℕ, ◌≤◌}
@@ -7,14 +9,11 @@ use lib.Seq.{length-take-le, get_or-take}
 use native.Mathlib.Nat.{not-suc-le-zero, le_of_suc-le-suc}
 use Prim.Native.Nat.{zero, suc}
 use lib.Ieee.{Float, nan}
-use Rattle.aero_error.specs.declared.Check.{Check}
-use Rattle.aero_error.specs.Checks.{up_to}
 use Rattle.aero_error.specs.CheckLaws.{up_same}
 use Rattle.sheet_data.specs.declared.Settings.{Settings}
 use Rattle.sheet_data.specs.Contents.{mach_at}
 use Rattle.sheet_data.specs.Tables.{tab, tab_same}
 use Rattle.drag_sheet.specs.declared.part.Row.{Row}
-use Rattle.drag_sheet.specs.declared.part.Prepared.TheVariants.{Ready}
 use Rattle.drag_sheet.specs.Formulas.{cell_of, made_test, value_of}
 use Rattle.drag_sheet.specs.Build.{row_test_from, row_from}
 use Rattle.drag_sheet.specs.Writing.{Filled}
@@ -30,7 +29,7 @@ zeros v (suc n) (suc m) h = ap (λ r. v ∷ r) (zeros v n m (le_of_suc-le-suc h)
 
 pub taken_row : (row : Row) (s : Settings) → s.count ≤ length s.machs → {r : Check} {out : List Float}
     → Filled (up_to (length (take s.count s.machs)) (λ k. made_test (cell_of row (get_or (take s.count s.machs) k nan)))) (tab (length (take s.count s.machs)) (λ k. value_of (cell_of row (get_or (take s.count s.machs) k nan)))) r out
-    → Filled (row_test_from (Ready row) s) (row_from (Ready row) s) r out
+    → Filled (row_test_from (Ok row) s) (row_from (Ok row) s) r out
 taken_row row s h f =
     let n = length-take-le s.count s.machs h in
     filled_same

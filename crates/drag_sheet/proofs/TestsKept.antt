@@ -1,5 +1,7 @@
 -- The tests of a sheet hold of the contents that a call leaves, where they held before and the call's own arguments passed theirs; so they hold of the model after
 -- an accepted open and every list of calls.
+use Rattle.std.specs.Prelude.{Ok, Err}
+use Rattle.aero_error.specs.Checks.{required, dimension, unless, Check}
 use mathlib.Core.Path.{◌≡◌, refl}
 use mathlib.Core.Bool.{true}
 use mathlib.Core.List.{List, [], ◌∷◌, ◌++◌}
@@ -12,11 +14,8 @@ use lib.Ieee.{Float, nan, lt, le, eq, of_bits}
 use borrow.Author.Tests.{ltb-false, le-ltb}
 use Rattle.elementary.specs.Tests.{between}
 use Rattle.elementary.specs.Constants.{0·0}
-use Rattle.aero_error.specs.declared.Check.{Check}
-use Rattle.aero_error.specs.declared.Check.TheVariants.{Passed, Failed}
 use Rattle.aero_error.specs.declared.Quantity.TheVariants.{Reynolds}
 use Rattle.aero_error.specs.declared.Rule.TheVariants.{TooManyColumns, DesignFull, NoSuchPlace}
-use Rattle.aero_error.specs.Checks.{required, dimension, unless}
 use Rattle.aero_error.specs.CheckLaws.{both_passed, unless_passed, up_none, up_each, up_all}
 use Rattle.drag.specs.Friction.{mach_checked, flow_checked}
 use Rattle.sheet_data.specs.declared.Settings.{Settings}
@@ -32,7 +31,7 @@ use Rattle.drag_sheet.proofs.CallLaws.{parts_few}
 
 -- the contents pass the tests of a sheet given, with so many cells lent
 abbrev pub Tested : Contents → ℕ → Type 0
-Tested c cells = sheet_test c cells (length c.parts) ≡ Passed
+Tested c cells = sheet_test c cells (length c.parts) ≡ Ok tt
 
 -- ---- what holds of each element
 
@@ -80,17 +79,17 @@ module _ {A : Type 0} (P : A → Type 0) where
 -- ---- the parts
 
 abbrev Fine : Part → Type 0
-Fine p = part_test p ≡ Passed
+Fine p = part_test p ≡ Ok tt
 
-each_part : (ps : List Part) → parts_test ps ≡ Passed → All Fine ps
+each_part : (ps : List Part) → parts_test ps ≡ Ok tt → All Fine ps
 unfolding parts_test
 each_part ps h = at_all Fine ps no_part (up_each _ (length ps) h)
 
-all_parts : (ps : List Part) → All Fine ps → parts_test ps ≡ Passed
+all_parts : (ps : List Part) → All Fine ps → parts_test ps ≡ Ok tt
 unfolding parts_test
 all_parts ps a = up_all _ (length ps) (all_at Fine ps no_part a)
 
-parts_kept : (call : Call) (c : Contents) → arguments_test call c.settings (length c.parts) ≡ Passed → All Fine c.parts → All Fine (applied call c).parts
+parts_kept : (call : Call) (c : Contents) → arguments_test call c.settings (length c.parts) ≡ Ok tt → All Fine c.parts → All Fine (applied call c).parts
 parts_kept (replace place p) c e a = all_set Fine c.parts place p (both_passed (unless (leb (length c.parts) place) _) _ e).second a
 parts_kept (insert place p) c e a =
     let b = both_passed (unless (ltb (length c.parts) place) NoSuchPlace) _ e in
@@ -103,24 +102,24 @@ parts_kept burnout c e a = a
 
 -- ---- the settings
 
-flow_kept : (s : Settings) (k i : ℕ) (M R : Float) → flow_checked M R ≡ Passed → flow_checked (mach_at s i) (reynolds_at s i) ≡ Passed
-    → flow_checked (mach_at (with_column s k M R) i) (reynolds_at (with_column s k M R) i) ≡ Passed
+flow_kept : (s : Settings) (k i : ℕ) (M R : Float) → flow_checked M R ≡ Ok tt → flow_checked (mach_at s i) (reynolds_at s i) ≡ Ok tt
+    → flow_checked (mach_at (with_column s k M R) i) (reynolds_at (with_column s k M R) i) ≡ Ok tt
 flow_kept s k i M R e h =
     let new = both_passed (mach_checked M) _ e in
     let old = both_passed (mach_checked (mach_at s i)) _ h in
-    rw (put_at (λ x. mach_checked x ≡ Passed) s.machs k i M nan new.first old.first)
-    (put_at (λ x. required (dimension x true) Reynolds x ≡ Passed) s.reynolds k i R nan new.second old.second)
+    rw (put_at (λ x. mach_checked x ≡ Ok tt) s.machs k i M nan new.first old.first)
+    (put_at (λ x. required (dimension x true) Reynolds x ≡ Ok tt) s.reynolds k i R nan new.second old.second)
 
-column_kept : (s : Settings) (cells k : ℕ) (M R : Float) → flow_checked M R ≡ Passed → settings_test s cells ≡ Passed → settings_test (with_column s k M R) cells ≡ Passed
+column_kept : (s : Settings) (cells k : ℕ) (M R : Float) → flow_checked M R ≡ Ok tt → settings_test s cells ≡ Ok tt → settings_test (with_column s k M R) cells ≡ Ok tt
 unfolding settings_test columns_test
 column_kept s cells k M R e h =
     let a = both_passed (unless (ltb most_columns s.count) TooManyColumns) _ h in
     let b = both_passed (body_test s) _ a.second in
     let d = both_passed (columns_test s) _ b.second in
-    let columns : columns_test (with_column s k M R) ≡ Passed = up_all _ s.count (λ i l. flow_kept s k i M R e (up_each _ s.count d.first i l)) in
+    let columns : columns_test (with_column s k M R) ≡ Ok tt = up_all _ s.count (λ i l. flow_kept s k i M R e (up_each _ s.count d.first i l)) in
     rw (a.first, b.first, columns) d.second
 
-settings_kept : (call : Call) (c : Contents) (cells : ℕ) → arguments_test call c.settings (length c.parts) ≡ Passed → settings_test c.settings cells ≡ Passed → settings_test (applied call c).settings cells ≡ Passed
+settings_kept : (call : Call) (c : Contents) (cells : ℕ) → arguments_test call c.settings (length c.parts) ≡ Ok tt → settings_test c.settings cells ≡ Ok tt → settings_test (applied call c).settings cells ≡ Ok tt
 settings_kept (replace place p) c cells e h = h
 settings_kept (insert place p) c cells e h = h
 settings_kept (remove place) c cells e h = h
@@ -130,14 +129,14 @@ settings_kept burnout c cells e h = h
 
 -- ---- the nozzle diameter
 
-pub zero_passes : nozzle_test 0·0 ≡ Passed
+pub zero_passes : nozzle_test 0·0 ≡ Ok tt
 unfolding between of_bits lt le eq
 zero_passes = refl
 
-nozzle_kept : (call : Call) (c : Contents) → arguments_test call c.settings (length c.parts) ≡ Passed → nozzle_test c.nozzle ≡ Passed → nozzle_test (applied call c).nozzle ≡ Passed
+nozzle_kept : (call : Call) (c : Contents) → arguments_test call c.settings (length c.parts) ≡ Ok tt → nozzle_test c.nozzle ≡ Ok tt → nozzle_test (applied call c).nozzle ≡ Ok tt
 nozzle_kept call c e h = rw (nozzle_left call c) (by call e)
   where
-    by : (call : Call) → arguments_test call c.settings (length c.parts) ≡ Passed → nozzle_test (nozzle_after call c.nozzle) ≡ Passed
+    by : (call : Call) → arguments_test call c.settings (length c.parts) ≡ Ok tt → nozzle_test (nozzle_after call c.nozzle) ≡ Ok tt
     by (replace place p) e = h
     by (insert place p) e = h
     by (remove place) e = h
@@ -147,7 +146,7 @@ nozzle_kept call c e h = rw (nozzle_left call c) (by call e)
 
 -- ---- all
 
-pub tested_after : (call : Call) (c : Contents) (cells : ℕ) → Tested c cells → arguments_test call c.settings (length c.parts) ≡ Passed → Tested (applied call c) cells
+pub tested_after : (call : Call) (c : Contents) (cells : ℕ) → Tested c cells → arguments_test call c.settings (length c.parts) ≡ Ok tt → Tested (applied call c) cells
 unfolding sheet_test
 tested_after call c cells t e =
     let a = both_passed (settings_test c.settings cells) _ t in
@@ -159,7 +158,7 @@ tested_after call c cells t e =
 
 -- ---- an open, and a list of calls
 
-pub tested_open : (s : Settings) (cells : ℕ) → settings_test s cells ≡ Passed → Tested (opened_model s) cells
+pub tested_open : (s : Settings) (cells : ℕ) → settings_test s cells ≡ Ok tt → Tested (opened_model s) cells
 unfolding sheet_test parts_test
 tested_open s cells h = rw (h, zero_passes) (up_none _)
 
@@ -170,7 +169,7 @@ tested_through cells [] m t = t
 tested_through cells (call ∷ calls) m t = tested_through cells calls (moved cells call m) (by (model_decision cells call m) refl)
   where
     by : (d : Check) → model_decision cells call m ≡ d → Tested (moved cells call m) cells
-    by (Failed e) p = rw p t
-    by Passed p =
+    by (Err e) p = rw p t
+    by (Ok _) p =
         let a = both_passed (sheet_test m cells (length m.parts)) _ p in
         rw p (tested_after call m cells t (both_passed (arguments_test call m.settings (length m.parts)) _ a.second).first)

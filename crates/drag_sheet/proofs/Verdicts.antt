@@ -1,25 +1,25 @@
 -- What a function that fills cells says, from what it found: a refusal, or all of them.
+use Rattle.std.specs.Prelude.{Ok, Err}
+use Rattle.aero_error.specs.Checks.{Check}
 use mathlib.Core.Path.{◌≡◌, sym, ◌∙◌}
 use mathlib.Core.List.{List}
 use Prim.Native.Nat.{ℕ}
 use native.Mathlib.Omega.{arith}
 use lib.Ieee.{Float}
 use Rattle.aero_error.specs.declared.AeroError.{AeroError}
-use Rattle.aero_error.specs.declared.Check.{Check}
-use Rattle.aero_error.specs.declared.Check.TheVariants.{Passed, Failed}
 use Rattle.drag_sheet.specs.Writing.{Filled, chosen}
 
-pub never : {A : Type 0} {check : Check} {e : AeroError} → check ≡ Failed e → check ≡ Passed → A
+pub never : {A : Type 0} {check : Check} {e : AeroError} → check ≡ Err e → check ≡ Ok tt → A
 never h p = let z : ◌≡◌ {A = ℕ} 0 1 = cc in absurd (omega arith)
 
-pub filled_refused : {test r : Check} {e : AeroError} {cells out : List Float} → test ≡ Failed e → r ≡ Failed e → Filled test cells r out
+pub filled_refused : {test r : Check} {e : AeroError} {cells out : List Float} → test ≡ Err e → r ≡ Err e → Filled test cells r out
 filled_refused h k = record { verdict = k ∙ sym h; made = λ p. never h p }
 
-pub filled_passed : {test : Check} {cells out : List Float} → test ≡ Passed → out ≡ cells → Filled test cells Passed out
+pub filled_passed : {test : Check} {cells out : List Float} → test ≡ Ok tt → out ≡ cells → Filled test cells (Ok tt) out
 filled_passed h e = record { verdict = sym h; made = λ p. e }
 
 pub filled_same : {test other r : Check} {cells others out : List Float} → test ≡ other → cells ≡ others → Filled test cells r out → Filled other others r out
 filled_same p q f = record { verdict = f.verdict ∙ p; made = λ e. f.made (p ∙ e) ∙ q }
 
-pub chosen_passed : {A : Type 0} {test : Check} (given left : A) → test ≡ Passed → left ≡ chosen test given left
+pub chosen_passed : {A : Type 0} {test : Check} (given left : A) → test ≡ Ok tt → left ≡ chosen test given left
 chosen_passed given left h = rw h

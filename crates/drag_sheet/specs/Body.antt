@@ -1,9 +1,11 @@
 -- The rows of the whole body as the code works them out: the base with its share of the reference area, and the friction with what each column and each roughness
 -- decides worked out once.
-use Rattle.std.specs.Prelude.{◌≡◌, Bool, true, false, ◌||◌, List, ℕ, zero, suc, ◌≤◌, ◌<◌, get_or, replicate, Float}
+use Rattle.std.specs.Prelude.{◌≡◌, Bool, true, false, ◌||◌, List, ℕ, zero, suc, ◌≤◌, ◌<◌, get_or, replicate, Float, is_some, Option, Some, None, Result, Ok}
 use Rattle.std.specs.Float.{nan}
 use Rattle.elementary.specs.Arithmetic.{◌⊕◌, ◌⊗◌}
 use Rattle.elementary.specs.Constants.{0·0}
+use Rattle.aero_error.specs.declared.AeroError.{AeroError}
+use Rattle.aero_error.specs.Checks.{◌for_value◌}
 use Rattle.drag.specs.declared.Wall.{Wall}
 use Rattle.drag.specs.declared.Flow.{Flow}
 use Rattle.drag.specs.declared.Flow.TheVariants.{Subsonic}
@@ -11,8 +13,6 @@ use Rattle.drag.specs.Friction.{wall_of}
 use Rattle.drag.specs.Flows.{flow_of, friction_in}
 use Rattle.drag.specs.Pressure.{base_drag_coefficient}
 use Rattle.sheet_data.specs.declared.Settings.{Settings}
-use Rattle.sheet_data.specs.declared.PartRoughness.{PartRoughness}
-use Rattle.sheet_data.specs.declared.PartRoughness.TheVariants.{OfSettings, Own}
 use Rattle.sheet_data.specs.declared.Part.{Part}
 use Rattle.sheet_data.specs.declared.Sheet.{Sheet}
 use Rattle.sheet_data.specs.Layout.{most_parts, most_columns}
@@ -37,33 +37,29 @@ pub record SumAsked (sheet : Sheet) (sum : List Float) : Type 0 where
   pub parts : sheet.design.count ≤ most_parts
   pub zeros : sum ≡ replicate sheet.settings.count 0·0
 
--- whether a roughness is a part's own, and whether any of the first n parts has one
-abbrev pub is_own : PartRoughness → Bool
-is_own OfSettings = false
-is_own (Own x) = true
-
+-- whether any of the first n parts has a roughness of its own
 unfoldable pub any_own : ℕ → List Part → Bool
 any_own zero ps = false
-any_own (suc n) ps = any_own n ps || is_own (part_at ps n).roughness
+any_own (suc n) ps = any_own n ps || is_some (part_at ps n).roughness
 
 -- what a read past the last column would give; nothing looks there
-abbrev pub no_flow : Flow
-no_flow = Subsonic nan nan nan
+abbrev pub no_flow : Result Flow AeroError
+no_flow = Ok (Subsonic nan nan nan)
 
-abbrev pub flow_at : List Flow → ℕ → Flow
+abbrev pub flow_at : List (Result Flow AeroError) → ℕ → Result Flow AeroError
 flow_at flows k = get_or flows k no_flow
 
 -- the flow of each column, for frictions on any wall
-pub record Flows (s : Settings) (flows : List Flow) : Type 0 where
+pub record Flows (s : Settings) (flows : List (Result Flow AeroError)) : Type 0 where
   pub at : (k : ℕ) → k < s.count → flow_at flows k ≡ flow_of true (reynolds_at s k) (mach_at s k)
 
 -- friction × form factor, on a wall, and for a part of this roughness, `common` being that of the settings' roughness
-abbrev pub formed : Wall → Float → Flow → Float
-formed wall form flow = value_of (friction_in wall flow) ⊗ form
+abbrev pub formed : Wall → Float → Result Flow AeroError → Float
+formed wall form flow = value_of (flow for_value friction_in wall) ⊗ form
 
-abbrev pub formed_for : PartRoughness → Float → Float → Flow → Float
-formed_for OfSettings common form flow = common
-formed_for (Own x) common form flow = formed (wall_of x) form flow
+abbrev pub formed_for : Option Float → Float → Float → Result Flow AeroError → Float
+formed_for None common form flow = common
+formed_for (Some x) common form flow = formed (wall_of x) form flow
 
 -- four more terms of a sum
 abbrev pub four_more : Float → Float → Float → Float → Float → Float → Float

@@ -1,16 +1,15 @@
 -- A whole sheet built from nothing (docs/REFERENCE.md, Rows): each cell by its row's kind and its column, from the contents alone; and the trial of its
 -- rows, "at each place by column from 0", which says whether it can be built.
+use Rattle.aero_error.specs.Checks.{◌then◌, up_to, Check}
+use Rattle.drag_sheet.specs.Formulas.{Prepared}
 use Rattle.std.specs.Prelude.{cond, List, ℕ, ◌-◌, length, ltb, eqb, Float}
 use Rattle.elementary.specs.Arithmetic.{◌⊕◌}
 use Rattle.elementary.specs.Constants.{0·0}
-use Rattle.aero_error.specs.declared.Check.{Check}
-use Rattle.aero_error.specs.Checks.{◌then◌, up_to}
 use Rattle.sheet_data.specs.declared.Settings.{Settings}
 use Rattle.sheet_data.specs.Layout.{most_parts, finishes, friction_row, base_row, total_row, all_rows}
 use Rattle.sheet_data.specs.Contents.{Contents, part_at, fore_at, mach_at, reynolds_at}
 use Rattle.sheet_data.specs.Tables.{tab}
 use Rattle.sheet_data.specs.Rows.{laid}
-use Rattle.drag_sheet.specs.declared.part.Prepared.{Prepared}
 use Rattle.drag_sheet.specs.Formulas.{prepared_of, cell_from, ready_test, made_test, value_of, sum_to, friction_cell, base_cell}
 
 -- ---- part rows

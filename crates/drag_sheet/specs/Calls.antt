@@ -1,11 +1,9 @@
 -- The calls on a sheet (docs/REFERENCE.md, Calls). A call is what it leaves, what it tests and what it writes: `applied`, `arguments_test`, `tries` and `scope`
 -- say these of each call, and all else is said once for every call.
-use Rattle.std.specs.Prelude.{◌≡◌, cond, List, [], ◌∷◌, ◌++◌, ℕ, ◌+◌, length, take, drop, set, ltb, leb, Float}
+use Rattle.std.specs.Prelude.{◌≡◌, cond, List, [], ◌∷◌, ◌++◌, ℕ, ◌+◌, length, take, drop, set, ltb, leb, Float, Ok, Err}
+use Rattle.aero_error.specs.Checks.{◌then◌, unless, up_to, Check}
 use Rattle.elementary.specs.Constants.{0·0}
 use Rattle.aero_error.specs.declared.Rule.TheVariants.{NoSuchPlace, DesignFull}
-use Rattle.aero_error.specs.declared.Check.{Check}
-use Rattle.aero_error.specs.declared.Check.TheVariants.{Passed, Failed}
-use Rattle.aero_error.specs.Checks.{◌then◌, unless, up_to}
 use Rattle.drag.specs.Friction.{flow_checked}
 use Rattle.sheet_data.specs.declared.Settings.{Settings}
 use Rattle.sheet_data.specs.declared.Part.{Part}
@@ -14,7 +12,6 @@ use Rattle.sheet_data.specs.Layout.{most_parts, finishes, friction_row, base_row
 use Rattle.sheet_data.specs.Contents.{Contents, contents_of, blank, mach_at}
 use Rattle.sheet_data.specs.Tests.{part_test, nozzle_test, settings_test, sheet_test}
 use Rattle.sheet_data.specs.Rows.{from}
-use Rattle.drag_sheet.specs.declared.Answer.{Answer}
 use Rattle.drag_sheet.specs.Formulas.{cell_from, ready_test, made_test}
 use Rattle.drag_sheet.specs.Build.{prepared_at, row_test, trial}
 use Rattle.drag_sheet.specs.Writing.{chosen, Scope, rows, column, whole, overwritten}
@@ -71,11 +68,11 @@ arguments_test (insert place p) s count = unless (ltb count place) NoSuchPlace t
 arguments_test (remove place) s count = unless (leb count place) NoSuchPlace
 arguments_test (set_column k M R) s count = unless (leb s.count k) NoSuchPlace then flow_checked M R
 arguments_test (ignite n) s count = nozzle_test n
-arguments_test burnout s count = Passed
+arguments_test burnout s count = Ok tt
 
 -- the row at a place, where there is a part
 abbrev pub row_test_where : Contents → ℕ → Check
-row_test_where c i = cond (ltb i (length c.parts)) (row_test c i) Passed
+row_test_where c i = cond (ltb i (length c.parts)) (row_test c i) (Ok tt)
 
 -- every row at one column
 unfoldable pub column_trial : ℕ → Contents → Check
@@ -88,8 +85,8 @@ tries (replace place p) c = row_test c place then row_test_where c (place + 1)
 tries (insert place p) c = trial c
 tries (remove place) c = trial c
 tries (set_column k M R) c = column_trial k c
-tries (ignite n) c = Passed
-tries burnout c = Passed
+tries (ignite n) c = Ok tt
+tries burnout c = Ok tt
 
 -- ---- what a call writes
 
@@ -134,10 +131,19 @@ sheet_with c sheet = record {
   nozzle_diameter = c.nozzle;
 }
 
+-- the sheet as a call leaves it
+abbrev pub left_by : Call → Sheet → Sheet
+left_by call sheet = sheet_with (after call sheet) sheet
+
+-- a call's answer: what it came to, and the sheet that it leaves
+pub record Answer : Type 0 where
+  pub outcome : Check
+  pub sheet : Sheet
+
 -- accepted, with the sheet as the call leaves it; or refused, with the sheet that was given
 abbrev pub answered : Check → Sheet → Sheet → Answer
-answered Passed given left = record { outcome = Passed; sheet = left }
-answered (Failed e) given left = record { outcome = Failed e; sheet = given }
+answered (Ok tt) given left = record { outcome = Ok tt; sheet = left }
+answered (Err e) given left = record { outcome = Err e; sheet = given }
 
 -- what each call's contract says: of its answer r, and of the lent cells before (xs) and after (ys)
 pub record Called (call : Call) (sheet : Sheet) (xs : List Float) (r : Answer) (ys : List Float) : Type 0 where

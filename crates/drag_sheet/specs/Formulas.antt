@@ -1,27 +1,19 @@
 -- The formulas of docs/REFERENCE.md, Rows, for the cells of a sheet, in their own order of operations. f is a part's fore diameter, the previous part's aft diameter d;
 -- D is the reference diameter, M a Mach number, R a Reynolds number.
-use Rattle.std.specs.Prelude.{cond, ℕ, zero, suc, length, Float}
+use Rattle.std.specs.Prelude.{cond, ℕ, zero, suc, length, Float, Option, Some, None, Result, Ok, Err}
+use Rattle.std.specs.Result.{result_unwrap_or}
+use Rattle.aero_error.specs.Checks.{◌for_value◌, Check, Coefficient}
 use Rattle.elementary.specs.Arithmetic.{◌⊕◌, ◌⊖◌, ◌⊗◌, ◌⊘◌, ◌≺◌}
 use Rattle.elementary.specs.Constants.{0·0}
-use Rattle.aero_error.specs.declared.Check.{Check}
-use Rattle.aero_error.specs.declared.Check.TheVariants.{Passed, Failed}
-use Rattle.aero_error.specs.declared.Coefficient.{Coefficient}
-use Rattle.aero_error.specs.declared.Coefficient.TheVariants.{Value, Refused}
-use Rattle.aero_error.specs.Checks.{◌for_value◌}
+use Rattle.aero_error.specs.declared.AeroError.{AeroError}
 use Rattle.drag.specs.Friction.{skin_friction_coefficient, body_friction_form_factor}
 use Rattle.drag.specs.Pressure.{base_drag_coefficient, boattail_factor}
-use Rattle.nose_drag.specs.declared.builder.Curve.{Curve}
-use Rattle.nose_drag.specs.declared.builder.Curve.TheVariants.{Built, Refused as NotBuilt}
-use Rattle.nose_drag.specs.Curves.{new_curve, coefficient_of}
+use Rattle.nose_drag.specs.Curves.{Curve, new_curve, coefficient_of}
 use Rattle.sheet_data.specs.declared.Settings.{Settings}
-use Rattle.sheet_data.specs.declared.PartRoughness.{PartRoughness}
-use Rattle.sheet_data.specs.declared.PartRoughness.TheVariants.{OfSettings, Own}
 use Rattle.sheet_data.specs.declared.Part.{Part}
 use Rattle.sheet_data.specs.Contents.{Contents, part_at, fore_at}
 use Rattle.drag_sheet.specs.declared.part.Row.{Row}
 use Rattle.drag_sheet.specs.declared.part.Row.TheVariants.{Widening, Narrowing, Level}
-use Rattle.drag_sheet.specs.declared.part.Prepared.{Prepared}
-use Rattle.drag_sheet.specs.declared.part.Prepared.TheVariants.{Ready, Refused as NotReady}
 
 -- ---- a part's cell
 
@@ -29,51 +21,53 @@ use Rattle.drag_sheet.specs.declared.part.Prepared.TheVariants.{Ready, Refused a
 abbrev pub area_ratio : Float → Float → Float → Float
 area_ratio a b D = (a ⊗ a ⊖ b ⊗ b) ⊘ (D ⊗ D)
 
+-- what a part's row is made from, or the refusal of its curve
+abbrev pub Prepared : Type 0
+Prepared = Result Row AeroError
+
 -- "The curve is taken out of that answer or its refusal goes on"
 abbrev pub with_curve : Curve → Float → Prepared
-with_curve (Built curve) area = Ready (Widening curve area)
-with_curve (NotBuilt refusal) area = NotReady refusal
+with_curve curve area = curve for_value λ made. Ok (Widening made area)
 
 -- what a part's row is made from: d > f, d < f, or d = f
 unfoldable pub prepared_of : Float → Float → Part → Prepared
 prepared_of D f part =
     let d = part.aft_diameter in
     cond (f ≺ d) (with_curve (new_curve part.shape (part.length ⊘ (d ⊖ f)) part.joint_angle) (area_ratio d f D))
-    (cond (d ≺ f) (Ready (Narrowing part.length f d (area_ratio f d D)))
-    (Ready Level))
+    (cond (d ≺ f) (Ok (Narrowing part.length f d (area_ratio f d D)))
+    (Ok Level))
 
 -- a coefficient times a number
 abbrev pub scaled_by : Float → Coefficient → Coefficient
-scaled_by x c = c for_value λ v. Value (v ⊗ x)
+scaled_by x c = c for_value λ v. Ok (v ⊗ x)
 
 -- base drag at M × the boattail factor
 abbrev pub boattail_drag : Float → Float → Float → Float → Coefficient
-boattail_drag l f d M = base_drag_coefficient M for_value λ base. boattail_factor l f d for_value λ factor. Value (base ⊗ factor)
+boattail_drag l f d M = base_drag_coefficient M for_value λ base. boattail_factor l f d for_value λ factor. Ok (base ⊗ factor)
 
 -- a part's cell at a Mach number
 unfoldable pub cell_of : Row → Float → Coefficient
 cell_of (Widening curve area) M = scaled_by area (coefficient_of curve M)
 cell_of (Narrowing l f d area) M = scaled_by area (boattail_drag l f d M)
-cell_of Level M = Value 0·0
+cell_of Level M = Ok 0·0
 
 -- the same of a row that may not be ready
 abbrev pub cell_from : Prepared → Float → Coefficient
-cell_from (Ready row) M = cell_of row M
-cell_from (NotReady e) M = Refused e
+cell_from (Ok row) M = cell_of row M
+cell_from (Err e) M = Err e
 
 -- whether a row is ready, and whether a cell was made
 abbrev pub ready_test : Prepared → Check
-ready_test (Ready row) = Passed
-ready_test (NotReady e) = Failed e
+ready_test (Ok row) = Ok tt
+ready_test (Err e) = Err e
 
 abbrev pub made_test : Coefficient → Check
-made_test (Value v) = Passed
-made_test (Refused e) = Failed e
+made_test (Ok v) = Ok tt
+made_test (Err e) = Err e
 
 -- a coefficient that the tests before have made sure of: once they have passed it is no refusal (proofs/OnlyCurves, `body_answered` and `row_ready`)
 abbrev pub value_of : Coefficient → Float
-value_of (Value v) = v
-value_of (Refused e) = 0·0
+value_of c = result_unwrap_or c 0·0
 
 -- ---- the cells of the whole body, at a Mach and a Reynolds number
 
@@ -83,9 +77,9 @@ sum_to zero f = 0·0
 sum_to (suc n) f = sum_to n f ⊕ f n
 
 -- a part's roughness, k being the settings': "absent, it is the settings' one"
-abbrev pub roughness_of : PartRoughness → Float → Float
-roughness_of OfSettings k = k
-roughness_of (Own x) k = x
+abbrev pub roughness_of : Option Float → Float → Float
+roughness_of None k = k
+roughness_of (Some x) k = x
 
 -- "(skin friction at that part's roughness × form factor)", at roughness k
 abbrev pub formed_friction : Settings → Float → Float → Float → Float

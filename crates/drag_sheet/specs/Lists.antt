@@ -1,17 +1,15 @@
 -- Demand 3, stated: an open with whatever settings and cells, and from an accepted one every list of replace, insert, remove, column, ignite and burnout
 -- calls, refused ones anywhere in it.
-use Rattle.std.specs.Prelude.{◌≡◌, List, [], ◌∷◌, map, length, take, drop, Float}
+use Rattle.std.specs.Prelude.{◌≡◌, List, [], ◌∷◌, map, length, take, drop, Float, Ok, Err}
+use Rattle.aero_error.specs.Checks.{Check}
 use Rattle.aero_error.specs.declared.AeroError.{AeroError}
-use Rattle.aero_error.specs.declared.Check.{Check}
-use Rattle.aero_error.specs.declared.Check.TheVariants.{Passed, Failed}
 use Rattle.aero_error.specs.Told.{told}
 use Rattle.sheet_data.specs.declared.Settings.{Settings}
 use Rattle.sheet_data.specs.declared.Sheet.{Sheet}
 use Rattle.sheet_data.specs.Layout.{most_parts, most_columns, needed}
 use Rattle.sheet_data.specs.Contents.{Contents, contents_of, blank}
-use Rattle.drag_sheet.specs.declared.Answer.{Answer}
+use Rattle.drag_sheet.specs.Calls.{Answer, Call, Called}
 use Rattle.drag_sheet.specs.Build.{trial, build}
-use Rattle.drag_sheet.specs.Calls.{Call, Called}
 use Rattle.drag_sheet.specs.Model.{open_decision, opened_model, model_after, model_answers}
 
 -- What holds of every sheet value that a program can make: its arrays have their lengths.
@@ -29,7 +27,7 @@ pub data Sequence : Sheet → List Float → List Call → Sheet → List Float 
 
 -- A sheet and its cells are what the model says: its rows can be built, the cells are one build of it from nothing, and the settings and the design are its own.
 pub record Matches (sheet : Sheet) (xs : List Float) (m : Contents) : Type 0 where
-  pub tried : trial m ≡ Passed
+  pub tried : trial m ≡ Ok tt
   pub rows : take (needed m.settings.count) xs ≡ build m
   pub contents : contents_of sheet ≡ m
   pub count : sheet.design.count ≡ length m.parts
@@ -44,6 +42,6 @@ pub record Agrees (lent : List Float) (start : Contents) (calls : List Call) (sh
 -- with no parts and leaves the cells; accepted, every list of calls that follows agrees with the model.
 pub record FromOpen (s : Settings) (lent : List Float) (r : Answer) (ys : List Float) : Type 0 where
   pub answer : told r.outcome ≡ told (open_decision (length lent) s)
-  pub refused : (e : AeroError) → r.outcome ≡ Failed e → (r.sheet ≡ blank s) × (ys ≡ lent)
-  pub accepted : r.outcome ≡ Passed → {calls : List Call} {last : Sheet} {zs : List Float} {outcomes : List Check}
+  pub refused : (e : AeroError) → r.outcome ≡ Err e → (r.sheet ≡ blank s) × (ys ≡ lent)
+  pub accepted : r.outcome ≡ Ok tt → {calls : List Call} {last : Sheet} {zs : List Float} {outcomes : List Check}
       → Sequence r.sheet ys calls last zs outcomes → Agrees lent (opened_model s) calls last zs outcomes

@@ -1,10 +1,9 @@
 -- The model that a list of calls is held against: the copy that is kept by hand (docs/REFERENCE.md, Hand copy). It is fed the calls' arguments and the number
 -- of cells lent, and nothing else. It holds contents: the settings with their columns, the parts in order, and the nozzle diameter, "which the hand copy keeps too".
+use Rattle.aero_error.specs.Checks.{◌then◌, Check}
 use Rattle.std.specs.Prelude.{List, [], ◌∷◌, map, ℕ, length}
 use Rattle.std.proofs.Math.Option.{Option}
 use Rattle.elementary.specs.Constants.{0·0}
-use Rattle.aero_error.specs.declared.Check.{Check}
-use Rattle.aero_error.specs.Checks.{◌then◌}
 use Rattle.aero_error.specs.Told.{Told, told}
 use Rattle.sheet_data.specs.declared.Settings.{Settings}
 use Rattle.sheet_data.specs.Contents.{Contents}

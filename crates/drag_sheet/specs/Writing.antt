@@ -1,8 +1,7 @@
 -- What is written over the lent cells, from the contents as a call leaves them: some rows and then the totals, one column, or all.
-use Rattle.std.specs.Prelude.{◌≡◌, List, ℕ, ◌-◌, get_or, set, Float}
+use Rattle.std.specs.Prelude.{◌≡◌, List, ℕ, ◌-◌, get_or, set, Float, Ok, Err}
+use Rattle.aero_error.specs.Checks.{Check}
 use Rattle.std.specs.Float.{nan}
-use Rattle.aero_error.specs.declared.Check.{Check}
-use Rattle.aero_error.specs.declared.Check.TheVariants.{Passed, Failed}
 use Rattle.sheet_data.specs.Layout.{finishes, friction_row, base_row, total_row, all_rows}
 use Rattle.sheet_data.specs.Contents.{Contents}
 use Rattle.sheet_data.specs.Tables.{tab}
@@ -10,13 +9,13 @@ use Rattle.sheet_data.specs.Rows.{from, row_at, written, rows_written}
 use Rattle.drag_sheet.specs.Build.{total_of, cell_at, row_of, trial, build}
 
 abbrev pub chosen : {A : Type 0} → Check → A → A → A
-chosen Passed given left = left
-chosen (Failed e) given left = given
+chosen (Ok _) given left = left
+chosen (Err e) given left = given
 
 -- what a function that fills lent cells says: its answer is the test's, and where that passed the cells are these. Of cells that were refused it says nothing
 pub record Filled (test : Check) (cells : List Float) (r : Check) (out : List Float) : Type 0 where
   pub verdict : r ≡ test
-  pub made : test ≡ Passed → out ≡ cells
+  pub made : test ≡ Ok tt → out ≡ cells
 
 -- which cells a call writes. Rows are named the last first; the totals, which follow them, are not named
 pub data Scope : Type 0 where

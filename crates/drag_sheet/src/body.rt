@@ -4,22 +4,11 @@ ghost use Rattle.std.specs.Float.{nan};
 ghost use Rattle.sheet_data.specs.Layout.{most_parts};
 ghost use Rattle.sheet_data.specs.Contents.{contents_of, fore_at};
 ghost use Rattle.sheet_data.specs.Tables.{tab};
-ghost use Rattle.drag_sheet.specs.Formulas.{value_of, base_ratio, base_area};
+ghost use Rattle.drag_sheet.specs.Formulas.{base_ratio, base_area};
 ghost use Rattle.drag_sheet.specs.Body.{base_over};
 
 use crate::part::area_ratio;
-use aero_error::Coefficient;
 use sheet_data::{Design, Sheet};
-
-// The value of a coefficient that cannot be refused any more.
-pub(crate) fn value_of(c: Coefficient) -> f64
-    ensures { result ≡ value_of c }
-{
-    match c {
-        Coefficient::Value(v) => v,
-        Coefficient::Refused(_) => 0.0,
-    }
-}
 
 // The aft diameter of the part before a place; 0 for place 0.
 pub(crate) fn fore_diameter(design: Design, place: usize) -> f64
@@ -29,11 +18,11 @@ pub(crate) fn fore_diameter(design: Design, place: usize) -> f64
     if place == 0 {
         return 0.0;
     }
-    let part = design.parts[place - 1];
-    part.aft_diameter
+    design.parts[place - 1].aft_diameter
 }
 
 // The share of the reference area that a base of the diameter d has around a nozzle of the diameter n.
+#[tactic(auto, unfolding(crate::specs::Formulas::base_ratio))]
 fn base_ratio(d: f64, n: f64, reference_diameter: f64) -> f64
     ensures { result ≡ base_ratio d n reference_diameter }
 {
@@ -62,9 +51,7 @@ pub(crate) fn fill_base(area: f64, machs: &[f64], out: &mut [f64])
     requires { length machs.now ≡ length out.old }
     ensures { out.new ≡ tab (length out.old) (λ k. base_over area (get_or machs.now k nan)) }
 {
-    let mut i = 0usize;
-    while i < out.len() {
-        out[i] = value_of(drag::base_drag_coefficient(machs[i])) * area;
-        i += 1;
+    for (i, cell) in out.iter_mut().enumerate() {
+        *cell = drag::base_drag_coefficient(machs[i]).unwrap_or(0.0) * area;
     }
 }

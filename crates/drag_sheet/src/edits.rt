@@ -1,65 +1,59 @@
-// The settings and the parts as a call leaves them.
-ghost use Rattle.std.specs.Prelude.{◌≡◌, ◌++◌, ◌+◌, ◌-◌, ◌≤◌, ◌<◌, take, drop};
+// The sheet as each call leaves it.
+ghost use Rattle.std.specs.Prelude.{◌≡◌, ◌+◌, ◌-◌, ◌≤◌, ◌<◌};
 ghost use Rattle.sheet_data.specs.Layout.{most_parts, most_columns};
-ghost use Rattle.drag_sheet.specs.Calls.{insert_at, remove_at, with_column};
-ghost use Rattle.drag_sheet.specs.Edits.{replaced_in, one_column};
+ghost use Rattle.drag_sheet.specs.Calls.{insert as insert_call, remove as remove_call, replace as replace_call, set_column as column_call, left_by};
+ghost use Rattle.drag_sheet.specs.Edits.{one_column};
 
-use sheet_data::layout::{COLUMNS, PARTS};
-use sheet_data::{Design, Part, Settings};
+use sheet_data::layout::COLUMNS;
+use sheet_data::{Part, Settings, Sheet};
 
-// The part goes to a place among the first `count`, and the parts from there on move up one; the slots after them stay.
-pub(crate) fn inserted(
-    parts: [Part; PARTS],
-    count: usize,
-    place: usize,
-    part: Part,
-) -> [Part; PARTS]
-    requires { (place ≤ count) × (count < most_parts) }
-    ensures { result ≡ insert_at place part (take count parts) ++ drop (count + 1) parts }
+// The part goes to a place, and the parts from there on move up one; the slots after them stay.
+pub(crate) fn inserted(sheet: Sheet, place: usize, part: Part) -> Sheet
+    requires { (place ≤ sheet.design.count) × (sheet.design.count < most_parts) }
+    ensures left { result ≡ left_by (insert_call place part) sheet }
+    ensures count { result.design.count ≡ sheet.design.count + 1 }
 {
-    let mut out = parts;
-    out[place] = part;
-    let mut i = place;
-    while i < count {
-        out[i + 1] = parts[i];
-        i += 1;
-    }
-    out
+    let count = sheet.design.count;
+    let mut left = sheet;
+    left.design.parts[place] = part;
+    left.design.parts[place + 1..count + 1].copy_from_slice(&sheet.design.parts[place..count]);
+    left.design.count = count + 1;
+    left
 }
 
-// The parts after a place among the first `count` move down one; the slot of the last and those after it stay.
-pub(crate) fn removed(parts: [Part; PARTS], count: usize, place: usize) -> [Part; PARTS]
-    requires { (place < count) × (count ≤ most_parts) }
-    ensures { result ≡ remove_at place (take count parts) ++ drop (count - 1) parts }
+// The parts after a place move down one; the slot of the last and those after it stay.
+pub(crate) fn removed(sheet: Sheet, place: usize) -> Sheet
+    requires { (place < sheet.design.count) × (sheet.design.count ≤ most_parts) }
+    ensures left { result ≡ left_by (remove_call place) sheet }
+    ensures count { result.design.count ≡ sheet.design.count - 1 }
 {
-    let mut out = parts;
-    let mut i = place + 1;
-    while i < count {
-        out[i - 1] = parts[i];
-        i += 1;
-    }
-    out
+    let count = sheet.design.count;
+    let mut left = sheet;
+    left.design.parts[place..count - 1].copy_from_slice(&sheet.design.parts[place + 1..count]);
+    left.design.count = count - 1;
+    left
 }
 
-// The design with the part at a place put anew.
-pub(crate) fn replaced_in(design: Design, place: usize, part: Part) -> Design
-    requires { place < most_parts }
-    ensures { result ≡ replaced_in design place part }
+// The part at a place put anew.
+pub(crate) fn replaced(sheet: Sheet, place: usize, part: Part) -> Sheet
+    requires { (place < sheet.design.count) × (sheet.design.count ≤ most_parts) }
+    ensures left { result ≡ left_by (replace_call place part) sheet }
+    ensures count { result.design.count ≡ sheet.design.count }
 {
-    let mut out = design;
-    out.parts[place] = part;
-    out
+    let mut left = sheet;
+    left.design.parts[place] = part;
+    left
 }
 
-// The settings with a column put anew.
-pub(crate) fn with_column(settings: Settings, column: usize, mach: f64, reynolds: f64) -> Settings
-    requires { column < most_columns }
-    ensures { result ≡ with_column settings column mach reynolds }
+// A column put anew.
+pub(crate) fn with_column(sheet: Sheet, column: usize, mach: f64, reynolds: f64) -> Sheet
+    requires { (column < most_columns) × (sheet.design.count ≤ most_parts) }
+    ensures { result ≡ left_by (column_call column mach reynolds) sheet }
 {
-    let mut out = settings;
-    out.machs[column] = mach;
-    out.reynolds[column] = reynolds;
-    out
+    let mut left = sheet;
+    left.settings.machs[column] = mach;
+    left.settings.reynolds[column] = reynolds;
+    left
 }
 
 // The settings with one column alone.

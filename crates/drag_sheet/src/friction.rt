@@ -9,57 +9,38 @@ ghost use Rattle.sheet_data.specs.Layout.{most_parts, most_columns};
 ghost use Rattle.sheet_data.specs.Contents.{contents_of, part_at};
 ghost use Rattle.sheet_data.specs.Tables.{tab};
 ghost use Rattle.drag_sheet.specs.Formulas.{value_of, sum_to};
-ghost use Rattle.drag_sheet.specs.Body.{friction_row_cells, SumAsked, is_own, any_own, flow_at, Flows, formed, formed_for, four_more};
+ghost use Rattle.drag_sheet.specs.Body.{friction_row_cells, SumAsked, any_own, flow_at, Flows, formed, formed_for, four_more};
 
-use crate::body::value_of;
+use aero_error::AeroError;
 use drag::{Flow, Wall};
 use sheet_data::layout::COLUMNS;
-use sheet_data::{Design, PartRoughness, Settings, Sheet};
-
-fn is_own(roughness: PartRoughness) -> bool
-    ensures { result ≡ is_own roughness }
-{
-    match roughness {
-        PartRoughness::OfSettings => false,
-        PartRoughness::Own(_) => true,
-    }
-}
+use sheet_data::{Design, Settings, Sheet};
 
 // Whether any part has a roughness of its own.
 fn any_own(design: Design) -> bool
     requires { design.count ≤ most_parts }
     ensures { result ≡ any_own design.count design.parts }
 {
-    let count = design.count;
     let mut own = false;
-    let mut place = 0usize;
-    while place < count {
-        let part = design.parts[place];
-        let roughness = part.roughness;
-        own = own | is_own(roughness);
-        place += 1;
+    for part in &design.parts[..design.count] {
+        own = own | part.roughness.is_some();
     }
     own
 }
 
 // The flow of each column.
-fn flows_of(settings: Settings) -> [Flow; COLUMNS]
+fn flows_of(settings: Settings) -> [Result<Flow, AeroError>; COLUMNS]
     requires { settings.count ≤ most_columns }
     ensures { Flows settings result }
 {
-    let count = settings.count;
-    let machs = settings.machs;
-    let reynolds = settings.reynolds;
-    let still = Flow::Subsonic {
+    let still = Ok(Flow::Subsonic {
         reynolds: 0.0,
         turbulent: 0.0,
         factor: 0.0,
-    };
+    });
     let mut flows = [still; COLUMNS];
-    let mut i = 0usize;
-    while i < count {
-        flows[i] = drag::flow_of(true, reynolds[i], machs[i]);
-        i += 1;
+    for i in 0..settings.count {
+        flows[i] = drag::flow_of(true, settings.reynolds[i], settings.machs[i]);
     }
     flows
 }
@@ -69,23 +50,27 @@ fn fill_once(wall: Wall, form: f64, machs: &[f64], reynolds: &[f64], out: &mut [
     requires { (length machs.now ≡ length out.old) × (length reynolds.now ≡ length out.old) }
     ensures { out.new ≡ tab (length out.old) (λ k. value_of (friction_on wall (get_or reynolds.now k nan) (get_or machs.now k nan)) ⊗ form) }
 {
-    let mut i = 0usize;
-    while i < out.len() {
-        out[i] = value_of(drag::friction_on(wall, reynolds[i], machs[i])) * form;
-        i += 1;
+    for (i, cell) in out.iter_mut().enumerate() {
+        *cell = drag::friction_on(wall, reynolds[i], machs[i]).unwrap_or(0.0) * form;
     }
 }
 
-// Friction times form factor on a wall in the flow of each column.
-fn fill_on(wall: Wall, form: f64, flows: [Flow; COLUMNS], out: &mut [f64])
+// Friction times form factor on a wall in a flow.
+fn formed(wall: Wall, form: f64, flow: Result<Flow, AeroError>) -> f64
+    ensures { result ≡ formed wall form flow }
+{
+    flow.and_then(|flow| drag::friction_in(wall, flow))
+        .unwrap_or(0.0)
+        * form
+}
+
+// The same in the flow of each column.
+fn fill_on(wall: Wall, form: f64, flows: [Result<Flow, AeroError>; COLUMNS], out: &mut [f64])
     requires { length out.old ≤ most_columns }
     ensures { out.new ≡ tab (length out.old) (λ k. formed wall form (flow_at flows k)) }
 {
-    let mut i = 0usize;
-    while i < out.len() {
-        let flow = flows[i];
-        out[i] = value_of(drag::friction_in(wall, flow)) * form;
-        i += 1;
+    for (i, cell) in out.iter_mut().enumerate() {
+        *cell = formed(wall, form, flows[i]);
     }
 }
 
@@ -94,10 +79,8 @@ fn add_part(formed: &[f64], wetted_ratio: f64, sum: &mut [f64])
     requires { length formed.now ≡ length sum.old }
     ensures { sum.new ≡ tab (length sum.old) (λ k. get_or sum.old k nan ⊕ get_or formed.now k nan ⊗ wetted_ratio) }
 {
-    let mut i = 0usize;
-    while i < sum.len() {
-        sum[i] = sum[i] + formed[i] * wetted_ratio;
-        i += 1;
+    for (i, cell) in sum.iter_mut().enumerate() {
+        *cell = *cell + formed[i] * wetted_ratio;
     }
 }
 
@@ -106,44 +89,45 @@ fn add_four(formed: &[f64], a: f64, b: f64, c: f64, d: f64, sum: &mut [f64])
     requires { length formed.now ≡ length sum.old }
     ensures { sum.new ≡ tab (length sum.old) (λ k. four_more (get_or sum.old k nan) (get_or formed.now k nan) a b c d) }
 {
-    let mut i = 0usize;
-    while i < sum.len() {
+    for (i, cell) in sum.iter_mut().enumerate() {
         let x = formed[i];
-        sum[i] = sum[i] + x * a + x * b + x * c + x * d;
-        i += 1;
+        *cell = *cell + x * a + x * b + x * c + x * d;
     }
 }
 
 // Adds the friction of a part with a roughness of its own.
-fn add_own(roughness: f64, form: f64, flows: [Flow; COLUMNS], wetted_ratio: f64, sum: &mut [f64])
+fn add_own(
+    roughness: f64,
+    form: f64,
+    flows: [Result<Flow, AeroError>; COLUMNS],
+    wetted_ratio: f64,
+    sum: &mut [f64],
+)
     requires { length sum.old ≤ most_columns }
     ensures { sum.new ≡ tab (length sum.old) (λ k. get_or sum.old k nan ⊕ formed (wall_of roughness) form (flow_at flows k) ⊗ wetted_ratio) }
 {
     let wall = drag::wall_of(roughness);
-    let mut i = 0usize;
-    while i < sum.len() {
-        let flow = flows[i];
-        sum[i] = sum[i] + value_of(drag::friction_in(wall, flow)) * form * wetted_ratio;
-        i += 1;
+    for (i, cell) in sum.iter_mut().enumerate() {
+        *cell = *cell + formed(wall, form, flows[i]) * wetted_ratio;
     }
 }
 
 // Adds the parts' frictions by place to `sum`, which holds +0; `common` is friction times form factor at the settings' roughness.
-fn add_by_place(design: Design, common: &[f64], form: f64, flows: [Flow; COLUMNS], sum: &mut [f64])
+fn add_by_place(
+    design: Design,
+    common: &[f64],
+    form: f64,
+    flows: [Result<Flow, AeroError>; COLUMNS],
+    sum: &mut [f64],
+)
     requires { (design.count ≤ most_parts) × (length common.now ≤ most_columns) × (sum.old ≡ replicate (length common.now) 0·0) }
     ensures { sum.new ≡ tab (length common.now) (λ k. sum_to design.count (λ i. formed_for (part_at design.parts i).roughness (get_or common.now k nan) form (flow_at flows k) ⊗ (part_at design.parts i).wetted_ratio)) }
 {
-    let count = design.count;
-    let mut place = 0usize;
-    while place < count {
-        let part = design.parts[place];
-        let wetted_ratio = part.wetted_ratio;
-        let roughness = part.roughness;
-        match roughness {
-            PartRoughness::OfSettings => add_part(common, wetted_ratio, sum),
-            PartRoughness::Own(k) => add_own(k, form, flows, wetted_ratio, sum),
+    for part in &design.parts[..design.count] {
+        match part.roughness {
+            None => add_part(common, part.wetted_ratio, sum),
+            Some(k) => add_own(k, form, flows, part.wetted_ratio, sum),
         }
-        place += 1;
     }
 }
 
@@ -152,27 +136,20 @@ fn add_common(design: Design, common: &[f64], sum: &mut [f64])
     requires { (design.count ≤ most_parts) × (sum.old ≡ replicate (length common.now) 0·0) }
     ensures { sum.new ≡ tab (length common.now) (λ k. sum_to design.count (λ i. get_or common.now k nan ⊗ (part_at design.parts i).wetted_ratio)) }
 {
-    let count = design.count;
-    let mut place = 0usize;
-    while place + 3 < count {
-        let first = design.parts[place];
-        let second = design.parts[place + 1];
-        let third = design.parts[place + 2];
-        let fourth = design.parts[place + 3];
+    let fours = design.count / 4;
+    for four in 0..fours {
+        let place = 4 * four;
         add_four(
             common,
-            first.wetted_ratio,
-            second.wetted_ratio,
-            third.wetted_ratio,
-            fourth.wetted_ratio,
+            design.parts[place].wetted_ratio,
+            design.parts[place + 1].wetted_ratio,
+            design.parts[place + 2].wetted_ratio,
+            design.parts[place + 3].wetted_ratio,
             sum,
         );
-        place += 4;
     }
-    while place < count {
-        let part = design.parts[place];
-        add_part(common, part.wetted_ratio, sum);
-        place += 1;
+    for place in 4 * fours..design.count {
+        add_part(common, design.parts[place].wetted_ratio, sum);
     }
 }
 
@@ -182,9 +159,8 @@ fn sum_own(sheet: Sheet, sum: &mut [f64])
     ensures { sum.new ≡ friction_row_cells (contents_of sheet) }
 {
     let settings = sheet.settings;
-    let design = sheet.design;
     let count = settings.count;
-    let form = value_of(drag::body_friction_form_factor(settings.body_fineness));
+    let form = drag::body_friction_form_factor(settings.body_fineness).unwrap_or(0.0);
     let flows = flows_of(settings);
     let mut common = [0.0; COLUMNS];
     fill_on(
@@ -193,7 +169,7 @@ fn sum_own(sheet: Sheet, sum: &mut [f64])
         flows,
         &mut common[..count],
     );
-    add_by_place(design, &common[..count], form, flows, sum);
+    add_by_place(sheet.design, &common[..count], form, flows, sum);
 }
 
 // The same where none has.
@@ -203,16 +179,14 @@ fn sum_common(sheet: Sheet, sum: &mut [f64])
 {
     let settings = sheet.settings;
     let count = settings.count;
-    let machs = settings.machs;
-    let reynolds = settings.reynolds;
-    let form = value_of(drag::body_friction_form_factor(settings.body_fineness));
+    let form = drag::body_friction_form_factor(settings.body_fineness).unwrap_or(0.0);
     let wall = drag::wall_of(settings.roughness);
     let mut common = [0.0; COLUMNS];
     fill_once(
         wall,
         form,
-        &machs[..count],
-        &reynolds[..count],
+        &settings.machs[..count],
+        &settings.reynolds[..count],
         &mut common[..count],
     );
     add_common(sheet.design, &common[..count], sum);

@@ -4,12 +4,12 @@ ghost use Rattle.std.specs.Float.{nan};
 ghost use Rattle.aero_error.specs.Checks.{up_to};
 ghost use Rattle.sheet_data.specs.Layout.{most_columns};
 ghost use Rattle.sheet_data.specs.Tables.{tab};
-ghost use Rattle.drag_sheet.specs.Formulas.{prepared_of, cell_of, value_of, made_test, with_curve, scaled_by, area_ratio, boattail_drag};
+ghost use Rattle.drag_sheet.specs.Formulas.{prepared_of, cell_of, value_of, made_test, area_ratio, boattail_drag};
 ghost use Rattle.drag_sheet.specs.Build.{row_test_from, row_from};
 ghost use Rattle.drag_sheet.specs.Writing.{Filled};
 
-use aero_error::{AeroError, Check, Coefficient};
-use nose_drag::{Curve, PressureDragCurve};
+use aero_error::AeroError;
+use nose_drag::PressureDragCurve;
 use sheet_data::{Part, Settings};
 
 // A part that widens has a curve, one that narrows takes its share of the base drag, and one as wide
@@ -29,22 +29,6 @@ pub enum Row {
     Level,
 }
 
-#[derive(Clone, Copy)]
-pub enum Prepared {
-    Ready(Row),
-    Refused(AeroError),
-}
-
-// A curve's refusal, as the row's.
-fn not_built(built: Curve, area: f64) -> Prepared
-    ensures { result ≡ with_curve built area }
-{
-    match built {
-        Curve::Built(curve) => Prepared::Ready(Row::Widening { curve, area }),
-        Curve::Refused(refusal) => Prepared::Refused(refusal),
-    }
-}
-
 // (a×a - b×b)/(D×D)
 pub(crate) fn area_ratio(a: f64, b: f64, reference_diameter: f64) -> f64
     ensures { result ≡ area_ratio a b reference_diameter }
@@ -53,99 +37,75 @@ pub(crate) fn area_ratio(a: f64, b: f64, reference_diameter: f64) -> f64
 }
 
 // What the row of a part is made from, after a part with the aft diameter `fore`.
-fn prepare(reference_diameter: f64, fore: f64, part: Part) -> Prepared
+fn prepare(reference_diameter: f64, fore: f64, part: Part) -> Result<Row, AeroError>
     ensures { result ≡ prepared_of reference_diameter fore part }
 {
     let aft = part.aft_diameter;
     let length = part.length;
     if fore < aft {
-        let shape = part.shape;
-        let built = PressureDragCurve::new(shape, length / (aft - fore), part.joint_angle);
+        let curve = PressureDragCurve::new(part.shape, length / (aft - fore), part.joint_angle)?;
         let area = area_ratio(aft, fore, reference_diameter);
-        let Curve::Built(curve) = built else {
-            return not_built(built, area);
-        };
-        return Prepared::Ready(Row::Widening { curve, area });
+        return Ok(Row::Widening { curve, area });
     }
     if aft < fore {
         let area = area_ratio(fore, aft, reference_diameter);
-        return Prepared::Ready(Row::Narrowing {
+        return Ok(Row::Narrowing {
             length,
             fore,
             aft,
             area,
         });
     }
-    Prepared::Ready(Row::Level)
-}
-
-// A coefficient times a number.
-fn scaled(c: Coefficient, by: f64) -> Coefficient
-    ensures { result ≡ scaled_by by c }
-{
-    match c {
-        Coefficient::Value(v) => Coefficient::Value(v * by),
-        Coefficient::Refused(e) => Coefficient::Refused(e),
-    }
+    Ok(Row::Level)
 }
 
 // Base drag at a Mach number times the boattail's share of it.
-fn boattail(length: f64, fore: f64, aft: f64, mach: f64) -> Coefficient
+fn boattail(length: f64, fore: f64, aft: f64, mach: f64) -> Result<f64, AeroError>
     ensures { result ≡ boattail_drag length fore aft mach }
 {
-    let base = drag::base_drag_coefficient(mach);
-    let Coefficient::Value(b) = base else {
-        return base;
-    };
-    let factor = drag::boattail_factor(length, fore, aft);
-    let Coefficient::Value(f) = factor else {
-        return factor;
-    };
-    Coefficient::Value(b * f)
+    let base = drag::base_drag_coefficient(mach)?;
+    let factor = drag::boattail_factor(length, fore, aft)?;
+    Ok(base * factor)
 }
 
 // A part's cell at a Mach number.
-fn cell(row: Row, mach: f64) -> Coefficient
+#[tactic(auto, unfolding(crate::specs::Formulas::cell_of))]
+fn cell(row: Row, mach: f64) -> Result<f64, AeroError>
     ensures { result ≡ cell_of row mach }
 {
     match row {
-        Row::Widening { curve, area } => scaled(curve.coefficient(mach), area),
+        Row::Widening { curve, area } => Ok(curve.coefficient(mach)? * area),
         Row::Narrowing {
             length,
             fore,
             aft,
             area,
-        } => scaled(boattail(length, fore, aft, mach), area),
-        Row::Level => Coefficient::Value(0.0),
+        } => Ok(boattail(length, fore, aft, mach)? * area),
+        Row::Level => Ok(0.0),
     }
 }
 
 // Fills `out` with a part's cells, one for each Mach number, or stops at the first that is refused.
-fn fill_row(row: Row, machs: &[f64], out: &mut [f64]) -> Check
+fn fill_row(row: Row, machs: &[f64], out: &mut [f64]) -> Result<(), AeroError>
     requires { length machs.now ≡ length out.old }
     ensures { Filled (up_to (length machs.now) (λ k. made_test (cell_of row (get_or machs.now k nan)))) (tab (length machs.now) (λ k. value_of (cell_of row (get_or machs.now k nan)))) result out.new }
 {
-    let mut i = 0usize;
-    while i < machs.len() {
-        match cell(row, machs[i]) {
-            Coefficient::Value(v) => out[i] = v,
-            Coefficient::Refused(e) => return Check::Failed(e),
-        }
-        i += 1;
+    for (i, mach) in machs.iter().enumerate() {
+        out[i] = cell(row, *mach)?;
     }
-    Check::Passed
+    Ok(())
 }
 
 // The row of a part after one with the aft diameter `fore`, into `out`, one cell for each column.
-pub(crate) fn part_row(settings: Settings, fore: f64, part: Part, out: &mut [f64]) -> Check
+pub(crate) fn part_row(
+    settings: Settings,
+    fore: f64,
+    part: Part,
+    out: &mut [f64],
+) -> Result<(), AeroError>
     requires { (settings.count ≤ most_columns) × (length out.old ≡ settings.count) }
     ensures { Filled (row_test_from (prepared_of settings.reference_diameter fore part) settings) (row_from (prepared_of settings.reference_diameter fore part) settings) result out.new }
 {
-    let count = settings.count;
-    let machs = settings.machs;
-    let prepared = prepare(settings.reference_diameter, fore, part);
-    match prepared {
-        Prepared::Ready(row) => fill_row(row, &machs[..count], out),
-        Prepared::Refused(refusal) => Check::Failed(refusal),
-    }
+    let row = prepare(settings.reference_diameter, fore, part)?;
+    fill_row(row, &settings.machs[..settings.count], out)
 }

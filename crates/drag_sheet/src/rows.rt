@@ -10,10 +10,11 @@ ghost use Rattle.sheet_data.specs.Rows.{from, written, rows_written};
 ghost use Rattle.drag_sheet.specs.Formulas.{sum_to};
 ghost use Rattle.drag_sheet.specs.Build.{row_of, trial, build};
 ghost use Rattle.drag_sheet.specs.Writing.{there, total_there, totalled, column_put, Filled, AllWritten};
-ghost use Rattle.drag_sheet.specs.Calls.{nozzle_rows, body_rows};
+ghost use Rattle.drag_sheet.specs.Calls.{nozzle_rows, body_rows, set_column as column_call, after, column_trial};
+ghost use Rattle.drag_sheet.specs.Edits.{ColumnAsked, cell_of_column};
 
-use crate::{body, friction, part};
-use aero_error::Check;
+use crate::{body, edits, friction, part};
+use aero_error::AeroError;
 use sheet_data::Sheet;
 use sheet_data::layout::{
     CELLS, COLUMNS, PARTS, base_row, finishes, friction_row, rows, total_row,
@@ -27,25 +28,12 @@ pub(crate) fn offset(row: usize, count: usize) -> usize
     row * count
 }
 
-// Copies a row.
-fn copy_row(from: &[f64], to: &mut [f64])
-    requires { length from.now ≡ length to.old }
-    ensures { to.new ≡ from.now }
-{
-    let mut i = 0usize;
-    while i < to.len() {
-        to[i] = from[i];
-        i += 1;
-    }
-}
-
 // Writes cells from `at` on.
 pub(crate) fn write_row(at: usize, row: &[f64], cells: &mut [f64])
     requires { at + length row.now ≤ length cells.old }
     ensures { cells.new ≡ written at row.now cells.old }
 {
-    let end = at + row.len();
-    copy_row(row, &mut cells[at..end]);
+    cells[at..at + row.len()].copy_from_slice(row);
 }
 
 // Adds a row to a sum, column by column.
@@ -53,10 +41,8 @@ fn add_row(sum: &mut [f64], row: &[f64])
     requires { length row.now ≡ length sum.old }
     ensures { sum.new ≡ tab (length sum.old) (λ k. get_or sum.old k nan ⊕ get_or row.now k nan) }
 {
-    let mut i = 0usize;
-    while i < sum.len() {
-        sum[i] = sum[i] + row[i];
-        i += 1;
+    for (i, cell) in sum.iter_mut().enumerate() {
+        *cell = *cell + row[i];
     }
 }
 
@@ -137,11 +123,10 @@ fn write_base(sheet: Sheet, cells: &mut [f64])
 {
     let settings = sheet.settings;
     let count = settings.count;
-    let machs = settings.machs;
     let area = body::base_area(sheet);
     let at = offset(base_row(), count);
     let end = at + count;
-    body::fill_base(area, &machs[..count], &mut cells[at..end]);
+    body::fill_base(area, &settings.machs[..count], &mut cells[at..end]);
 }
 
 // Writes the base and total rows anew.
@@ -164,58 +149,60 @@ pub(crate) fn write_body(sheet: Sheet, cells: &mut [f64])
 }
 
 // The rows of a design's parts; the other cells stay. It stops at the lowest place that cannot be built.
-fn part_rows(sheet: Sheet, cells: &mut [f64]) -> Check
+fn part_rows(sheet: Sheet, cells: &mut [f64]) -> Result<(), AeroError>
     requires { Fits sheet (length cells.old) }
     ensures { Filled (trial (contents_of sheet)) (rows_written sheet.settings.count (row_of (contents_of sheet)) (from 0 sheet.design.count) cells.old) result cells.new }
 {
     let settings = sheet.settings;
     let design = sheet.design;
-    let places = design.count;
-    let parts = design.parts;
     let count = settings.count;
     let mut fore = 0.0;
-    let mut place = 0usize;
-    while place < places {
-        let part = parts[place];
+    for (place, part) in design.parts[..design.count].iter().enumerate() {
         let at = offset(place, count);
         let end = at + count;
-        let check = part::part_row(settings, fore, part, &mut cells[at..end]);
-        let Check::Passed = check else {
-            return check;
-        };
+        part::part_row(settings, fore, *part, &mut cells[at..end])?;
         fore = part.aft_diameter;
-        place += 1;
     }
-    Check::Passed
+    Ok(())
 }
 
 // All rows of a sheet, built from nothing into cells that hold +0.
-pub(crate) fn build_rows(sheet: Sheet, cells: &mut [f64]) -> Check
+pub(crate) fn build_rows(sheet: Sheet, cells: &mut [f64]) -> Result<(), AeroError>
     requires { Fits sheet (length cells.old) × (cells.old ≡ replicate (needed sheet.settings.count) 0·0) }
     ensures { Filled (trial (contents_of sheet)) (build (contents_of sheet)) result cells.new }
 {
-    let check = part_rows(sheet, cells);
-    let Check::Passed = check else {
-        return check;
-    };
+    part_rows(sheet, cells)?;
     write_body(sheet, cells);
-    Check::Passed
+    Ok(())
+}
+
+// The cells of one column, as a sheet that has that column alone.
+pub(crate) fn build_column(
+    sheet: Sheet,
+    column: usize,
+    mach: f64,
+    reynolds: f64,
+    cells: &mut [f64],
+) -> Result<(), AeroError>
+    requires { ColumnAsked sheet column cells.old }
+    ensures { Filled (column_trial column (after (column_call column mach reynolds) sheet)) (tab (all_rows finish_count) (cell_of_column (after (column_call column mach reynolds) sheet) column)) result cells.new }
+{
+    let mut one = sheet;
+    one.settings = edits::one_column(sheet.settings, mach, reynolds);
+    build_rows(one, cells)
 }
 
 // Builds a sheet from nothing and writes all its rows, or leaves the cells as they are.
-pub(crate) fn write_all(sheet: Sheet, cells: &mut [f64]) -> Check
+pub(crate) fn write_all(sheet: Sheet, cells: &mut [f64]) -> Result<(), AeroError>
     requires { Fits sheet (length cells.old) }
     ensures { AllWritten (contents_of sheet) cells.old result cells.new }
 {
     let mut scratch = [0.0; CELLS];
     let count = sheet.settings.count;
     let all = rows() * count;
-    let check = build_rows(sheet, &mut scratch[..all]);
-    let Check::Passed = check else {
-        return check;
-    };
+    build_rows(sheet, &mut scratch[..all])?;
     write_row(0, &scratch[..all], cells);
-    check
+    Ok(())
 }
 
 // Writes a cell for each row into a column.

@@ -109,8 +109,8 @@ made shape f φ curve e n = first (required (dimension f true) Fineness f) (join
 
     first : (c : Check) (j : Coefficient) → ((c and_then (j for_value after_joint)) for_value record_it) ≡ Ok curve → Made shape f curve
     first (Err r) j e = none_built e
-    first (Ok tt) (Err r) e = none_built e
-    first (Ok tt) (Ok rest) e = taken rest (shaped shape f rest) refl (rw n at e)
+    first (Ok _) (Err r) e = none_built e
+    first (Ok _) (Ok rest) e = taken rest (shaped shape f rest) refl (rw n at e)
 
 -- what a record adds moves neither M_L nor the method
 record Same (a b : PressureDragCurve) : Type 0 where
@@ -150,7 +150,7 @@ module _ {shape : NoseShape} {lower upper : Reference} {weight : Float} (b : Bet
 -- ---- the three series, whatever the parameter
 
 once_passed : (check : Check) (made curve : PressureDragCurve) → (check and_then Ok made) ≡ Ok curve → curve ≡ made
-once_passed (Ok tt) made curve e = ap built (sym e)
+once_passed (Ok _) made curve e = ap built (sym e)
 once_passed (Err r) made curve e = none_built e
 
 pub power_between : (n : Float) → Between (PowerSeries n) (power_bracket n).lower (power_bracket n).upper (weight_of (power_bracket n) n)

@@ -11,13 +11,6 @@ use elementary::{LN_2, is_between, is_finite};
 use shapes::NoseShape;
 use stoney::{SUBSONIC_MACH_LIMIT, StoneyNose};
 
-// The builder's answer.
-#[derive(Clone, Copy)]
-pub enum Curve {
-    Built(PressureDragCurve),
-    Refused(AeroError),
-}
-
 // Two references and the parameters at which they stand.
 #[derive(Clone, Copy)]
 struct Bracket {

@@ -48,5 +48,5 @@ unfolding sheet_test
 held_nozzle c cells count h = inside 0·0 c.nozzle 100·0 (by (nozzle_test c.nozzle) refl)
   where
     by : (test : Check) → nozzle_test c.nozzle ≡ test → nozzle_test c.nozzle ≡ Ok tt
-    by (Ok tt) p = p
+    by (Ok _) p = p
     by (Err e) p = let f = nozzle_before_parts c cells count e (both_passed (settings_test c.settings cells) _ h).first p in let z : ◌≡◌ {A = ℕ} 0 1 = cc in absurd (omega arith)

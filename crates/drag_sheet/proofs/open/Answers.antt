@@ -1,20 +1,17 @@
 -- `open` meets its contract.
-use mathlib.Core.Path.{sym, ◌∙◌}
-use native.Mathlib.Omega.{arith}
-use lib.ListN.{length}
+use Rattle.std.proofs.Common.{sym, ◌∙◌, arith, length}
+use Rattle.aero_error.proofs.HandedOn.{handed_on}
 use Rattle.drag_sheet.proofs.Answers.{settings_facts, opened_refused, opened_whole}
 use Rattle.drag_sheet.proofs.open.Goals as goal
 
-pub returns-in_default : goal.returns-in_default
-returns-in_default c = let a = c.args in opened_refused a.settings a.cells.now _ _ _ c.blank-sheet.ensures c.check_settings-outcome.ensures c.in_default.is
+pub returns-in_err-check_settings : goal.returns-in_err-check_settings
+returns-in_err-check_settings c = opened_refused c.args.settings _ _ _ _ c.blank.ensures (sym c.check_settings.ensures ∙ c.in_err-check_settings.was) (handed_on _ _ c.from_residual.ensures)
 
-pub rewrite-requires : goal.rewrite-requires
-rewrite-requires c =
+pub write_all-requires : goal.write_all-requires
+write_all-requires c =
     let a = c.args in
-    let f = settings_facts a.settings (length a.cells.now) (sym c.check_settings-outcome.ensures ∙ c.in-Passed.is) in
-    rw c.blank-sheet.ensures record { columns = f.0; parts = omega arith; room = f.1 }
+    let f = settings_facts a.settings (length a.cells.now) (sym c.check_settings.ensures ∙ c.in_ok-check_settings.was) in
+    rw c.blank.ensures record { columns = f.0; parts = omega arith; room = f.1 }
 
 pub returns : goal.returns
-returns c =
-    let a = c.args in
-    opened_whole a.settings a.cells.now _ _ _ c.blank-sheet.ensures (sym c.check_settings-outcome.ensures ∙ c.in-Passed.is) c.rewrite.ensures
+returns c = opened_whole c.args.settings _ _ _ _ c.blank.ensures (sym c.check_settings.ensures ∙ c.in_ok-check_settings.was) c.write_all.ensures

@@ -1,42 +1,37 @@
 -- `remove` meets its contract: the sheet that it leaves, all rows of it written.
-use mathlib.Core.Path.{◌≡◌, refl, sym, ◌∙◌}
-use native.Mathlib.Omega.{arith}
-use lib.ListN.{length}
-use Rattle.sheet_data.specs.Layout.{most_parts}
+use Rattle.std.proofs.Common.{refl, sym, ap, ◌∙◌, arith, length}
+use Rattle.aero_error.proofs.HandedOn.{handed_on}
+use Rattle.sheet_data.specs.declared.Sheet.{Sheet}
 use Rattle.drag_sheet.specs.Calls.{remove, tries}
-use Rattle.drag_sheet.proofs.Answers.{Facts, call_facts, bounds, called_refused, called_whole}
-use Rattle.drag_sheet.proofs.Changed.{removed_sheet}
-use Rattle.std.proofs.Common.{rules}
+use Rattle.drag_sheet.proofs.Answers.{Facts, call_facts, bounds, called_refused, whole_refused, whole_accepted}
 use Rattle.drag_sheet.proofs.remove.Goals as goal
-use Rattle.drag_sheet.proofs.remove.Goals.{In-Passed, Start}
+use Rattle.drag_sheet.proofs.remove.Goals.{In_ok-check_remove}
 
 -- what the tests have shown
-facts : (c : In-Passed) → Facts (remove c.args.place) c.args.sheet (length c.args.cells.now)
-facts c = call_facts (remove c.args.place) c.args.sheet (length c.args.cells.now) (sym c.check_remove-outcome.ensures ∙ c.in-Passed.is)
+facts : (c : In_ok-check_remove) → Facts (remove c.args.place) c.args.sheet.now (length c.args.cells.now)
+facts c = call_facts (remove c.args.place) c.args.sheet.now (length c.args.cells.now) (sym c.check_remove.ensures ∙ c.in_ok-check_remove.was)
 
--- the array of the design has its length
-long : (s : Start) → length s.args.sheet.design.parts ≡ most_parts
-long s = s.well_formed.0.1.1.1.0.1.1.1.0.1.0.1
+pub returns-in_err-check_remove : goal.returns-in_err-check_remove
+returns-in_err-check_remove c = called_refused (remove c.args.place) _ _ _ _ (sym c.check_remove.ensures ∙ c.in_err-check_remove.was) (handed_on _ _ c.from_residual.ensures)
 
-pub returns-in_default : goal.returns-in_default
-returns-in_default c = called_refused (remove c.args.place) c.args.sheet c.args.cells.now _ _ c.check_remove-outcome.ensures c.in_default.is
+pub removed-left-requires : goal.removed-left-requires
+removed-left-requires c =
+    let f = facts (goal.at.removed-left-requires c).In_ok-check_remove in
+    let b = bounds (remove c.args.place) c.args.sheet.now.settings c.args.sheet.now.design.count f.arguments in
+    (b, f.fits.parts)
 
-pub removed-requires : goal.removed-requires
-removed-requires c = let f = facts (goal.at.removed-requires c).In-Passed in let b = bounds (remove c.args.place) c.args.sheet.settings c.args.sheet.design.count f.arguments in (b, f.fits.parts)
+pub write_all-requires : goal.write_all-requires
+write_all-requires c =
+    let f = facts (goal.at.write_all-requires c).In_ok-check_remove in
+    let b = bounds (remove c.args.place) c.args.sheet.now.settings c.args.sheet.now.design.count f.arguments in
+    let same = ap (λ (s : Sheet). s.settings.count) c.removed-left.ensures.left in
+    record { columns = omega (arith, f.fits.columns); parts = omega (arith, c.removed-left.ensures.count, f.fits.parts); room = rw same f.fits.room }
 
-pub rewrite-requires : goal.rewrite-requires
-rewrite-requires c =
-    let f = facts (goal.at.rewrite-requires c).In-Passed in
-    let b = bounds (remove c.args.place) c.args.sheet.settings c.args.sheet.design.count f.arguments in
-    record { columns = f.fits.columns; parts = omega (arith, f.fits.parts); room = f.fits.room }
+pub returns-in_err-write_all : goal.returns-in_err-write_all
+unfolding tries
+returns-in_err-write_all c =
+    whole_refused (remove c.args.place) _ _ _ _ _ (sym c.check_remove.ensures ∙ c.in_ok-check_remove.was) c.removed-left.ensures.left refl refl c.write_all.ensures _ _ c.in_err-write_all.was (handed_on _ _ c.from_residual-in_err-write_all.ensures)
 
 pub returns : goal.returns
 unfolding tries
-returns c =
-    let f = facts (goal.at.returns c).In-Passed in
-    let b = bounds (remove c.args.place) c.args.sheet.settings c.args.sheet.design.count f.arguments in
-    called_whole (remove c.args.place) c.args.sheet _ c.args.cells.now _ _ (sym c.check_remove-outcome.ensures ∙ c.in-Passed.is)
-    (removed_sheet c.args.sheet (long (goal.at.returns c).Start) f.fits.parts c.args.place _ b c.removed.ensures) refl refl c.rewrite.ensures
-
-pub overflow_sub-design : goal.overflow_sub-design
-overflow_sub-design c = let f = facts (goal.at.overflow_sub-design c).In-Passed in let b = bounds (remove c.args.place) c.args.sheet.settings c.args.sheet.design.count f.arguments in let h = b in search rules
+returns c = whole_accepted (remove c.args.place) _ _ _ _ _ (sym c.check_remove.ensures ∙ c.in_ok-check_remove.was) c.removed-left.ensures.left refl refl c.write_all.ensures c.in_ok-write_all.was

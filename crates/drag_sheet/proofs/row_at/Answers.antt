@@ -12,11 +12,11 @@ returns c =
 pub fore_diameter-fore-requires : goal.fore_diameter-fore-requires
 fore_diameter-fore-requires c = let p = c.requires in search rules
 
-pub offset_bounds-design-place : goal.offset_bounds-design-place
-offset_bounds-design-place c = let p = c.requires in search rules
+pub offset_bounds-sheet-place : goal.offset_bounds-sheet-place
+offset_bounds-sheet-place c = let p = c.requires in search rules
 
-pub bounds-design-place : goal.bounds-design-place
-bounds-design-place c = let p = c.requires in search rules
+pub bounds-sheet-place : goal.bounds-sheet-place
+bounds-sheet-place c = let p = c.requires in search rules
 
 pub part_row-requires : goal.part_row-requires
 part_row-requires c = let p = c.requires in (p.columns, p.wide)

@@ -1,8 +1,6 @@
--- The loop of `add_by_place`: the frictions of the parts before the place are added.
-use mathlib.Core.Path.{◌≡◌}
-use Prim.Native.Nat.{◌-◌, ◌≤◌}
-use lib.ListN.{length, get_or}
-use lib.Ieee.{nan}
+-- The loop of `add_by_place`: the frictions of the parts before this one are added.
+use Rattle.std.specs.Prelude.{◌≡◌, length, get_or}
+use Rattle.std.specs.Float.{nan}
 use Rattle.elementary.specs.Arithmetic.{◌⊗◌}
 use Rattle.sheet_data.specs.Contents.{part_at}
 use Rattle.sheet_data.specs.Tables.{tab}
@@ -10,8 +8,5 @@ use Rattle.drag_sheet.specs.Formulas.{sum_to}
 use Rattle.drag_sheet.specs.Body.{flow_at, formed_for}
 use Rattle.drag_sheet.proofs.friction.add_by_place.Given as goal
 
-abbrev pub invariant-loop-place : goal.invariant-loop-place
-invariant-loop-place l = (l.place ≤ l.count) × (l.sum ≡ tab (length l.common) (λ k. sum_to l.place (λ i. formed_for (part_at l.design.parts i).roughness (get_or l.common k nan) l.form (flow_at l.flows k) ⊗ (part_at l.design.parts i).wetted_ratio)))
-
-abbrev pub decreases-loop-place : goal.decreases-loop-place
-decreases-loop-place l = l.count - l.place
+abbrev pub invariant-loop-part : goal.invariant-loop-part
+invariant-loop-part l = l.sum ≡ tab (length l.common) (λ k. sum_to l.part-index (λ i. formed_for (part_at l.fn.design.parts i).roughness (get_or l.common k nan) l.form (flow_at l.flows k) ⊗ (part_at l.fn.design.parts i).wetted_ratio))

@@ -1,13 +1,11 @@
 -- `add_four` meets its contract.
-use native.Mathlib.Omega.{arith}
-use lib.Ieee.{nan}
+use Rattle.std.proofs.Common.{arith}
+use Rattle.std.specs.Float.{nan}
 use Rattle.sheet_data.specs.Tables.{fill_none, fill_more, fill_end}
 use Rattle.drag_sheet.proofs.friction.add_four.Goals as goal
 
 pub loop-i-preserved : goal.loop-i-preserved
-loop-i-preserved c =
-    let l = c.loop-i in
-    fill_more _ _ l.invariant (omega (arith, l.invariant.long)) (rw (l.invariant.left nan l.i (omega arith)))
+loop-i-preserved c = let l = c.loop-i in fill_more _ _ l.invariant (omega (arith, l.invariant.long)) (rw (l.invariant.left nan l.i (omega arith)))
 
 pub loop-i-init : goal.loop-i-init
 loop-i-init c = fill_none _ _

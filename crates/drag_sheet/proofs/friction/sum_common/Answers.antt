@@ -47,16 +47,10 @@ returns c =
     ∙ rw (take_at c.fill_once.new.out _ S.count (fill_long (goal.at.returns c).After-fill_once))
     (common_added c.args.sheet (omega (arith, (long (goal.at.returns c).Start).parts)) _ c.requires.1
     (c.fill_once.ensures
-    ∙ rw (← prefix_long S.count (replicate most_columns 0·0) (omega arith)) (once_filled S _ _ c.wall_of-wall.ensures (c.value_of-form.ensures ∙ ap value_of c.body_friction_form_factor.ensures))))
-
-pub slice_bounds-machs-end : goal.slice_bounds-machs-end
-slice_bounds-machs-end c = omega (arith, (long (goal.at.slice_bounds-machs-end c).Start).machs)
+    ∙ rw (← prefix_long S.count (replicate most_columns 0·0) (omega arith)) (once_filled S _ _ c.wall_of-wall.ensures (c.unwrap_or-form.ensures ∙ ap value_of c.body_friction_form_factor.ensures))))
 
 pub slice_bounds-fill_once-end : goal.slice_bounds-fill_once-end
 slice_bounds-fill_once-end c = prefix_long _ _ (omega (arith, (long (goal.at.slice_bounds-fill_once-end c).Start).machs))
-
-pub slice_bounds-reynolds-end : goal.slice_bounds-reynolds-end
-slice_bounds-reynolds-end c = omega (arith, (long (goal.at.slice_bounds-reynolds-end c).Start).reynolds)
 
 pub slice_bounds-fill_once-end-2 : goal.slice_bounds-fill_once-end-2
 slice_bounds-fill_once-end-2 c = prefix_long _ _ (omega (arith, (long (goal.at.slice_bounds-fill_once-end-2 c).Start).reynolds))

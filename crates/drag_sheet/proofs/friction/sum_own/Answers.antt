@@ -29,7 +29,7 @@ pub returns : goal.returns
 returns c =
     c.add_by_place.ensures
     ∙ rw (take_at c.fill_on.new.out _ c.args.sheet.settings.count (fill_long (goal.at.returns c).After-fill_on))
-    (own_added c.args.sheet (omega (arith, slots (goal.at.returns c).Start)) _ _ _ (c.value_of-form.ensures ∙ ap value_of c.body_friction_form_factor.ensures) c.flows_of-flows.ensures
+    (own_added c.args.sheet (omega (arith, slots (goal.at.returns c).Start)) _ _ _ (c.unwrap_or-form.ensures ∙ ap value_of c.body_friction_form_factor.ensures) c.flows_of-flows.ensures
     (c.fill_on.ensures ∙ rw (← prefix_long c.args.sheet.settings.count (replicate most_columns 0·0) (omega arith), c.wall_of.ensures)))
 
 pub slice_bounds-fill_on-end : goal.slice_bounds-fill_on-end

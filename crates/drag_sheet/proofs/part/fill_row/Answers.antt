@@ -1,35 +1,35 @@
 -- `fill_row` meets its contract.
-use mathlib.Core.Path.{refl, sym, ap, ◌∙◌}
-use native.Mathlib.Omega.{arith}
-use lib.Ieee.{nan}
+use Rattle.std.proofs.Common.{sym, ap, ◌∙◌, arith}
+use Rattle.std.specs.Float.{nan}
 use Rattle.aero_error.specs.CheckLaws.{up_none, up_more, up_failed, up_end}
+use Rattle.aero_error.proofs.HandedOn.{handed_on}
 use Rattle.sheet_data.specs.Tables.{fill_none, fill_more, fill_end}
 use Rattle.drag_sheet.specs.Formulas.{value_of, made_test}
 use Rattle.drag_sheet.proofs.Verdicts.{filled_refused, filled_passed}
 use Rattle.drag_sheet.proofs.part.fill_row.Goals as goal
 
-pub returns-in-Refused : goal.returns-in-Refused
-returns-in-Refused c =
+pub returns-in_err-out : goal.returns-in_err-out
+returns-in_err-out c =
     let l = c.loop-i in
-    filled_refused (up_failed _ _ _ _ l.invariant.1 (ap made_test (sym c.cell.ensures ∙ c.in-Refused.is)) c.loop-i-test.true) refl
+    filled_refused (up_failed _ _ _ _ l.invariant.made (ap made_test (sym c.cell.ensures ∙ c.in_err-out.was)) c.loop-i-test.true) (handed_on _ _ c.from_residual.ensures)
 
 pub loop-i-preserved : goal.loop-i-preserved
 loop-i-preserved c =
     let l = c.loop-i in
-    let e = sym c.cell.ensures ∙ c.in-Value.is in
-    (fill_more _ _ l.invariant.0 (omega arith) (sym (ap value_of e)), up_more _ l.invariant.1 (ap made_test e))
+    let e = sym c.cell.ensures ∙ c.in_ok-out.was in
+    record { filled = fill_more _ _ l.invariant.filled (omega arith) (sym (ap value_of e)); made = up_more _ l.invariant.made (ap made_test e) }
 
 pub returns : goal.returns
 returns c =
     let l = c.loop-i in
     let n = c.requires in
-    filled_passed (sym (up_end _ (omega (arith, l.invariant.0.inside)) (omega arith) l.invariant.1)) (rw n (fill_end nan _ l.invariant.0 (omega arith)))
+    filled_passed (sym (up_end _ (omega (arith, l.invariant.filled.inside)) (omega arith) l.invariant.made)) (rw n (fill_end nan _ l.invariant.filled (omega arith)))
 
 pub loop-i-init : goal.loop-i-init
-loop-i-init c = (fill_none _ _, up_none _)
+loop-i-init c = record { filled = fill_none _ _; made = up_none _ }
 
-pub shape_of-out-in-Refused : goal.shape_of-out-in-Refused
-shape_of-out-in-Refused c = c.loop-i.invariant.0.long
+pub shape_of-out-in_err-out : goal.shape_of-out-in_err-out
+shape_of-out-in_err-out c = c.loop-i.invariant.filled.long
 
 pub shape_of-out : goal.shape_of-out
-shape_of-out c = c.loop-i.invariant.0.long
+shape_of-out c = c.loop-i.invariant.filled.long

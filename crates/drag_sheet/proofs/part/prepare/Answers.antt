@@ -1,14 +1,15 @@
--- `drag_sheet::prepare` meets its contract.
+-- `prepare` meets its contract.
+use Rattle.aero_error.proofs.HandedOn.{handed_on}
 use Rattle.drag_sheet.specs.Formulas.{prepared_of}
 use Rattle.drag_sheet.proofs.part.prepare.Goals as goal
 
-pub returns-in_default : goal.returns-in_default
+pub returns-in_err-curve : goal.returns-in_err-curve
 unfolding prepared_of
-returns-in_default c = rw (c.if-fore-aft.true, ← c.new-built.ensures, ← c.area_ratio-area.ensures) c.not_built.ensures
+returns-in_err-curve c = rw (c.if-fore-aft.true, ← c.new.ensures, c.in_err-curve.was) (handed_on _ _ c.from_residual.ensures)
 
 pub returns-then-fore-aft : goal.returns-then-fore-aft
 unfolding prepared_of
-returns-then-fore-aft c = rw (c.if-fore-aft.true, ← c.new-built.ensures, ← c.area_ratio-area.ensures, c.in-Built.is)
+returns-then-fore-aft c = rw (c.if-fore-aft.true, ← c.new.ensures, c.in_ok-curve.was, ← c.area_ratio-area.ensures)
 
 pub returns-then-aft-fore : goal.returns-then-aft-fore
 unfolding prepared_of

@@ -1,10 +1,11 @@
 -- `part_rows` meets its contract.
-use mathlib.Core.Path.{◌≡◌, sym, ap, ◌∙◌}
+use mathlib.Core.Path.{◌≡◌, refl, sym, ap, ◌∙◌}
 use Prim.Native.Nat.{ℕ, ◌+◌, ◌-◌, ◌≤◌}
 use native.Mathlib.Omega.{arith}
 use lib.ListN.{length, take}
 use lib.Seq.{length-take-le}
 use borrow.Rule.Slice.PartMut.{same_len_mid}
+use Rattle.aero_error.proofs.HandedOn.{handed_on}
 use Rattle.elementary.specs.Constants.{0·0}
 use Rattle.aero_error.specs.CheckLaws.{up_failed, up_end}
 use Rattle.sheet_data.specs.Layout.{most_parts}
@@ -30,36 +31,36 @@ offset-at-requires c = let f = c.requires in (omega (arith, f.parts), f.columns)
 inside : (c : After-offset-at) → c.offset-at.result + c.args.sheet.settings.count ≤ length c.loop-place.cells
 inside c = omega (arith, c.offset-at.ensures.inside, c.requires.room, c.loop-place.invariant.rows.long)
 
-pub part_row-check-requires : goal.part_row-check-requires
-part_row-check-requires c =
-    (c.requires.columns, middle_long c.offset-at.result c.args.sheet.settings.count c.loop-place.cells (inside (goal.at.part_row-check-requires c).After-offset-at))
+pub part_row-requires : goal.part_row-requires
+part_row-requires c =
+    (c.requires.columns, middle_long c.offset-at.result c.args.sheet.settings.count c.loop-place.cells (inside (goal.at.part_row-requires c).After-offset-at))
 
-pub shape_of-cells-in_default : goal.shape_of-cells-in_default
-shape_of-cells-in_default c =
+pub shape_of-cells-in_err-part_row : goal.shape_of-cells-in_err-part_row
+shape_of-cells-in_err-part_row c =
     let at = c.loop-place in
     let o = c.offset-at.result in
-    let f = c.part_row-check in
+    let f = c.part_row in
     same_len_mid o (o + c.args.sheet.settings.count - o) at.cells f.new.out f.auto.out ∙ at.invariant.rows.long
 
-pub returns-in_default : goal.returns-in_default
+pub returns-in_err-part_row : goal.returns-in_err-part_row
 unfolding trial
-returns-in_default c =
+returns-in_err-part_row c =
     let at = c.loop-place in
-    let f = c.part_row-check in
+    let f = c.part_row in
     let h = c.loop-place-test.true in
-    let p = prepared_next (contents c.args.sheet.settings c.args.sheet.design.count c.args.sheet.design.parts) at.invariant (part_taken _ _ _ h) f.ensures in
-    filled_refused (sym (same_trial 0·0 (contents_of c.args.sheet)) ∙ up_failed _ _ _ _ at.invariant.passed (sym p.verdict ∙ c.in_default.is) (omega (arith, long (goal.at.returns-in_default c).Start))) c.in_default.is
+    let p = prepared_next (contents c.args.sheet.settings c.args.sheet.design.count c.args.sheet.design.parts) at.invariant refl f.ensures in
+    filled_refused (sym (same_trial 0·0 (contents_of c.args.sheet)) ∙ up_failed _ _ _ _ at.invariant.passed (sym p.verdict ∙ c.in_err-part_row.was) (omega (arith, long (goal.at.returns-in_err-part_row c).Start))) (handed_on _ _ c.from_residual.ensures)
 
 pub loop-place-preserved : goal.loop-place-preserved
 loop-place-preserved c =
     let at = c.loop-place in
     let n = c.args.sheet.settings.count in
     let o = c.offset-at in
-    let f = c.part_row-check in
+    let f = c.part_row in
     let h = c.loop-place-test.true in
     let all = contents c.args.sheet.settings c.args.sheet.design.count c.args.sheet.design.parts in
     let w = f.auto.out ∙ middle_long o.result n at.cells (inside (goal.at.loop-place-preserved c).After-offset-at) in
-    laid_next all at.invariant o.result f.new.out o.ensures.place (inside (goal.at.loop-place-preserved c).After-offset-at) w (part_taken _ _ _ h) (omega (arith, c.requires.parts)) (omega (arith, long (goal.at.loop-place-preserved c).Start)) f.ensures c.in-Passed.is h
+    laid_next all at.invariant o.result f.new.out o.ensures.place (inside (goal.at.loop-place-preserved c).After-offset-at) w refl (omega (arith, c.requires.parts)) (omega (arith, long (goal.at.loop-place-preserved c).Start)) f.ensures c.in_ok-part_row.was (omega (arith, long (goal.at.loop-place-preserved c).Start))
 
 pub returns : goal.returns
 unfolding trial

@@ -14,7 +14,4 @@ abbrev pub contents : Settings → ℕ → List Part → Contents
 contents s n slots = record { settings = s; parts = take n slots; nozzle = 0·0 }
 
 abbrev pub invariant-loop-place : goal.invariant-loop-place
-invariant-loop-place l = Laying (contents l.settings l.places l.parts) l.places l.initial.cells l.cells l.fore l.place
-
-abbrev pub decreases-loop-place : goal.decreases-loop-place
-decreases-loop-place l = l.places - l.place
+invariant-loop-place l = Laying (contents l.settings l.fn.sheet.design.count l.fn.sheet.design.parts) l.fn.sheet.design.count l.initial.cells l.cells l.fore l.place

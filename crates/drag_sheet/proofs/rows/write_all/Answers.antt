@@ -5,12 +5,13 @@ use native.Mathlib.Nat.{le_of_eq}
 use native.Mathlib.Omega.{arith}
 use lib.ListN.{length, replicate, length-append}
 use lib.Seq.{take_at}
+use Rattle.aero_error.proofs.HandedOn.{handed_on}
 use Rattle.elementary.specs.Constants.{0·0}
 use Rattle.sheet_data.specs.Layout.{most_cells, needed, needed_few}
 use Rattle.drag_sheet.specs.Writing.{overwritten}
 use Rattle.drag_sheet.proofs.Taken.{prefix_long, zeros}
 use Rattle.drag_sheet.proofs.rows.write_all.Goals as goal
-use Rattle.drag_sheet.proofs.rows.write_all.Goals.{After-build_rows-check, After-rows}
+use Rattle.drag_sheet.proofs.rows.write_all.Goals.{After-build_rows, After-rows}
 
 -- so many cells are needed, and they are within the scratch memory
 all : (c : After-rows) → c.rows.result * c.args.sheet.settings.count ≡ needed c.args.sheet.settings.count
@@ -19,30 +20,28 @@ all c = rw c.rows.ensures
 small : (c : After-rows) → c.rows.result * c.args.sheet.settings.count ≤ most_cells
 small c = rw (all c) (needed_few _ c.requires.columns)
 
-pub build_rows-check-requires : goal.build_rows-check-requires
-build_rows-check-requires c =
+pub build_rows-requires : goal.build_rows-requires
+build_rows-requires c =
     let n = needed_few _ c.requires.columns in
-    rw (all (goal.at.build_rows-check-requires c).After-rows) (record { columns = c.requires.columns; parts = c.requires.parts; room = le_of_eq (prefix_long _ (replicate most_cells 0·0) n) }, zeros 0·0 _ most_cells n)
+    rw (all (goal.at.build_rows-requires c).After-rows) (record { columns = c.requires.columns; parts = c.requires.parts; room = le_of_eq (prefix_long _ (replicate most_cells 0·0) n) }, zeros 0·0 _ most_cells n)
 
-pub returns-in_default : goal.returns-in_default
-returns-in_default c =
-    let v = c.build_rows-check.ensures.verdict in
-    record { verdict = v; left = rw (sym v ∙ c.in_default.is) }
+pub returns-in_err-build_rows : goal.returns-in_err-build_rows
+returns-in_err-build_rows c = let no = sym c.build_rows.ensures.verdict ∙ c.in_err-build_rows.was in record { verdict = rw no (handed_on _ _ c.from_residual.ensures); left = rw no }
 
 -- what was built has as many cells as the sheet needs
-made_long : (c : After-build_rows-check) → c.rows.result * c.args.sheet.settings.count ≤ most_cells → length c.build_rows-check.new.cells ≡ c.rows.result * c.args.sheet.settings.count
-made_long c h = c.build_rows-check.auto.cells ∙ sym (prefix_long _ (replicate most_cells 0·0) h)
+made_long : (c : After-build_rows) → c.rows.result * c.args.sheet.settings.count ≤ most_cells → length c.build_rows.new.cells ≡ c.rows.result * c.args.sheet.settings.count
+made_long c h = c.build_rows.auto.cells ∙ sym (prefix_long _ (replicate most_cells 0·0) h)
 
 pub write_row-requires : goal.write_row-requires
 write_row-requires c =
-    rw (take_at c.build_rows-check.new.cells _ _ (made_long (goal.at.write_row-requires c).After-build_rows-check (small (goal.at.write_row-requires c).After-rows)), made_long (goal.at.write_row-requires c).After-build_rows-check (small (goal.at.write_row-requires c).After-rows), all (goal.at.write_row-requires c).After-rows) (omega (arith, c.requires.room))
+    rw (take_at c.build_rows.new.cells _ _ (made_long (goal.at.write_row-requires c).After-build_rows (small (goal.at.write_row-requires c).After-rows)), made_long (goal.at.write_row-requires c).After-build_rows (small (goal.at.write_row-requires c).After-rows), all (goal.at.write_row-requires c).After-rows) (omega (arith, c.requires.room))
 
 pub returns : goal.returns
 unfolding overwritten
 returns c =
-    let v = c.build_rows-check.ensures.verdict in
-    let p = sym v ∙ c.in-Passed.is in
-    record { verdict = v; left = c.write_row.ensures ∙ rw (p, take_at c.build_rows-check.new.cells _ _ (made_long (goal.at.returns c).After-build_rows-check (small (goal.at.returns c).After-rows)), c.build_rows-check.ensures.made p) }
+    let v = c.build_rows.ensures.verdict in
+    let p = sym v ∙ c.in_ok-build_rows.was in
+    record { verdict = sym p; left = c.write_row.ensures ∙ rw (p, take_at c.build_rows.new.cells _ _ (made_long (goal.at.returns c).After-build_rows (small (goal.at.returns c).After-rows)), c.build_rows.ensures.made p) }
 
 pub overflow_mul-all : goal.overflow_mul-all
 overflow_mul-all c = omega (arith, small (goal.at.overflow_mul-all c).After-rows)
@@ -54,7 +53,7 @@ pub slice_bounds-build_rows-end : goal.slice_bounds-build_rows-end
 slice_bounds-build_rows-end c = prefix_long _ (replicate most_cells 0·0) (small (goal.at.slice_bounds-build_rows-end c).After-rows)
 
 pub slice_bounds-scratch-end-2 : goal.slice_bounds-scratch-end-2
-slice_bounds-scratch-end-2 c = let l = made_long (goal.at.slice_bounds-scratch-end-2 c).After-build_rows-check (small (goal.at.slice_bounds-scratch-end-2 c).After-rows) in simp length-append (omega arith)
+slice_bounds-scratch-end-2 c = let l = made_long (goal.at.slice_bounds-scratch-end-2 c).After-build_rows (small (goal.at.slice_bounds-scratch-end-2 c).After-rows) in simp length-append (omega arith)
 
 pub slice_bounds-write_row-end : goal.slice_bounds-write_row-end
-slice_bounds-write_row-end c = let l = made_long (goal.at.slice_bounds-write_row-end c).After-build_rows-check (small (goal.at.slice_bounds-write_row-end c).After-rows) in prefix_long _ _ (simp length-append (omega arith))
+slice_bounds-write_row-end c = let l = made_long (goal.at.slice_bounds-write_row-end c).After-build_rows (small (goal.at.slice_bounds-write_row-end c).After-rows) in prefix_long _ _ (simp length-append (omega arith))

@@ -35,8 +35,5 @@ returns c =
     f.ensures ∙ rw (m, c.base_area-area.ensures) (taken_cells (base_over (base_area (contents_of c.args.sheet))) S ∙ base_made (contents_of c.args.sheet)) in
     put_row c.offset-at.result S.count f.new.out c.args.cells.now (f.auto.out ∙ m) ∙ rw (e, c.offset-at.ensures.place, c.base_row.ensures)
 
-pub slice_bounds-machs-end : goal.slice_bounds-machs-end
-slice_bounds-machs-end c = omega (arith, c.requires.columns, long (goal.at.slice_bounds-machs-end c).Start)
-
 pub slice_bounds-fill_base-end : goal.slice_bounds-fill_base-end
 slice_bounds-fill_base-end c = prefix_long _ _ (omega (arith, c.requires.columns, long (goal.at.slice_bounds-fill_base-end c).Start))

@@ -1,6 +1,5 @@
--- `write_row` meets its contract: the cells that `copy_row` was lent, put back.
-use mathlib.Core.Path.{ap, ◌∙◌}
-use lib.ListN.{length}
+-- `write_row` meets its contract: the cells that `copy_from_slice` was lent, put back.
+use Rattle.std.proofs.Common.{ap, ◌∙◌, length}
 use Rattle.sheet_data.specs.Rows.{written}
 use Rattle.sheet_data.specs.RowLaws.{put_row}
 use Rattle.drag_sheet.proofs.rows.write_row.Goals as goal
@@ -8,5 +7,5 @@ use Rattle.drag_sheet.proofs.rows.write_row.Goals as goal
 pub returns : goal.returns
 returns c =
     let a = c.args in
-    let f = c.copy_row in
-    put_row a.at (length a.row.now) f.new.to a.cells.now (ap length f.ensures) ∙ ap (λ r. written a.at r a.cells.now) f.ensures
+    let same = c.copy_from_slice.ensures.after in
+    put_row a.at (length a.row.now) c.copy_from_slice.new.self a.cells.now (ap length same) ∙ ap (λ r. written a.at r a.cells.now) same
