@@ -1,5 +1,4 @@
 -- The laws that the proofs of the cards share, and laws about a whole card: how far it reaches, its arrays, its count byte, a part's roughness.
-pub mod Tests
 pub mod Numbers
 pub mod Extents
 pub mod Arrays

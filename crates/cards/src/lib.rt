@@ -3,18 +3,16 @@
 #![tactic(auto)]
 
 ghost use Rattle.std.specs.Prelude.{◌≡◌};
-ghost use Rattle.cards.specs.Cards.{takes_parameter, parameter_right, parameter_at, shape_at, roughness_at, last_at, rest_at, part_fields, part_at, no_settings, columns_at, fineness_at, settings_fields, settings_at};
+ghost use Rattle.cards.specs.Fields.{Took};
+ghost use Rattle.cards.specs.Cards.{takes_parameter, parameter_right, shape_at, roughness_at, part_fields, part_at, no_settings, columns_at, settings_fields, settings_at};
 
 mod fields;
 
-use aero_error::{AeroError, Check, Rule};
-use fields::{
-    ByteRead, NUMBER_BYTES, NumberRead, PAIR_BYTES, PairRead, has, read_byte, read_number,
-    read_numbers, read_pair, wide,
-};
+use aero_error::{AeroError, Rule, unless};
+use fields::{NUMBER_BYTES, PAIR_BYTES, Reader, bit, numbers_at};
 use shapes::NoseShape;
 use sheet_data::layout::COLUMNS;
-use sheet_data::{Part, PartRoughness, Settings};
+use sheet_data::{Part, Settings};
 
 // The most bytes of a settings card: bit map, D, the roughness, B, the count and the columns.
 pub const SETTINGS_BYTES: usize = 1 + 3 * NUMBER_BYTES + 1 + COLUMNS * PAIR_BYTES;
@@ -22,277 +20,138 @@ pub const SETTINGS_BYTES: usize = 1 + 3 * NUMBER_BYTES + 1 + COLUMNS * PAIR_BYTE
 // The most bytes of a part card: bit map, shape, parameter, L, d, joint angle, w and roughness.
 pub const PART_BYTES: usize = 1 + 1 + 6 * NUMBER_BYTES;
 
-// The shape of a part, with the position after its byte and its parameter.
-#[derive(Clone, Copy)]
-pub enum ShapeRead {
-    Shape { shape: NoseShape, next: usize },
-    Refused(AeroError),
-}
-
-// The roughness of a part, with the position after it.
-#[derive(Clone, Copy)]
-pub enum RoughnessRead {
-    Roughness { value: PartRoughness, next: usize },
-    Refused(AeroError),
-}
-
-// A part card, with the position after it.
-#[derive(Clone, Copy)]
-pub enum PartRead {
-    Read { part: Part, next: usize },
-    Refused(AeroError),
-}
-
-// A settings card, with the position after it. Refused, the settings say nothing.
-#[derive(Clone, Copy)]
-pub struct SettingsRead {
-    pub outcome: Check,
-    pub settings: Settings,
-    pub next: usize,
-}
-
 // ---- part cards
 
 fn takes_parameter(number: u8) -> bool
     ensures { result ≡ takes_parameter number }
 {
-    if number == 0 {
-        return false;
-    }
-    if number == 2 {
-        return false;
-    }
-    true
+    number != 0 && number != 2
 }
 
-// Whether the parameter's bit present where it must, and does not where it must not.
+// Whether the parameter is present where it must be, and isn't where it mustn't.
 fn parameter_right(present: bool, number: u8) -> bool
     ensures { result ≡ parameter_right present number }
 {
-    let takes = takes_parameter(number);
-    if present {
-        return takes;
-    }
-    !takes
+    present == takes_parameter(number)
 }
 
-// The parameter of a shape, judged and read.
-fn read_parameter(present: bool, number: u8, s: &[u8], at: usize) -> ShapeRead
-    ensures { result ≡ parameter_at present number s.now at }
-{
-    if parameter_right(present, number) {
-        match read_number(present, s, at) {
-            NumberRead::Refused(e) => ShapeRead::Refused(e),
-            NumberRead::Number { value, next } => ShapeRead::Shape {
-                shape: NoseShape::of_number(wide(number), value),
-                next,
-            },
-        }
-    } else {
-        ShapeRead::Refused(AeroError::Broken(Rule::FieldMissing))
+impl Reader<'_> {
+    // The shape byte, then the parameter, judged and read.
+    #[tactic(auto, unfolding(crate::specs::Cards::shape_at, crate::specs::Cards::parameter_at))]
+    fn shape(&mut self, map: u8) -> Result<NoseShape, AeroError>
+        ensures { Took (shape_at map) self.old result self.new }
+    {
+        let number = self.byte(bit(map, 0))?;
+        unless(5 < number, Rule::ReservedBit)?;
+        let present = bit(map, 1);
+        unless(!parameter_right(present, number), Rule::FieldMissing)?;
+        let parameter = self.number(present)?;
+        Ok(NoseShape::of_number(u64::from(number), parameter))
     }
-}
 
-// The shape byte, then the parameter.
-fn read_shape(map: u8, s: &[u8], at: usize) -> ShapeRead
-    ensures { result ≡ shape_at map s.now at }
-{
-    match read_byte(map / 1 % 2 == 1, s, at) {
-        ByteRead::Refused(e) => ShapeRead::Refused(e),
-        ByteRead::Byte { value, next } => {
-            if 5 < value {
-                ShapeRead::Refused(AeroError::Broken(Rule::ReservedBit))
-            } else {
-                read_parameter(map / 2 % 2 == 1, value, s, next)
-            }
+    // The roughness of a part; the settings' one where it is not present.
+    fn roughness(&mut self, present: bool) -> Result<Option<f64>, AeroError>
+        ensures { Took (roughness_at present) self.old result self.new }
+    {
+        if present {
+            Ok(Some(self.number(true)?))
+        } else {
+            Ok(None)
         }
     }
-}
 
-// The roughness of a part; the settings' one where it is not present.
-fn read_roughness(present: bool, s: &[u8], at: usize) -> RoughnessRead
-    ensures { result ≡ roughness_at present s.now at }
-{
-    if present {
-        return match read_number(true, s, at) {
-            NumberRead::Refused(e) => RoughnessRead::Refused(e),
-            NumberRead::Number { value, next } => RoughnessRead::Roughness {
-                value: PartRoughness::Own(value),
-                next,
-            },
-        };
+    // A part card whose bit map is read.
+    #[tactic(auto, unfolding(crate::specs::Cards::part_fields))]
+    fn part(&mut self, map: u8) -> Result<Part, AeroError>
+        ensures { Took (part_fields map) self.old result self.new }
+    {
+        unless(127 < map, Rule::ReservedBit)?;
+        let shape = self.shape(map)?;
+        let length = self.number(bit(map, 2))?;
+        let aft_diameter = self.number(bit(map, 3))?;
+        let joint_angle = self.number(bit(map, 4))?;
+        let wetted_ratio = self.number(bit(map, 5))?;
+        let roughness = self.roughness(bit(map, 6))?;
+        Ok(Part {
+            shape,
+            length,
+            aft_diameter,
+            joint_angle,
+            wetted_ratio,
+            roughness,
+        })
     }
-    RoughnessRead::Roughness {
-        value: PartRoughness::OfSettings,
-        next: at,
-    }
-}
 
-// Joint angle, w and roughness, and with them the part.
-fn read_last(
-    shape: NoseShape,
-    length: f64,
-    aft_diameter: f64,
-    map: u8,
-    s: &[u8],
-    at: usize,
-) -> PartRead
-    ensures { result ≡ last_at shape length aft_diameter map s.now at }
-{
-    match read_pair(map / 16 % 2 == 1, map / 32 % 2 == 1, s, at) {
-        PairRead::Refused(e) => PartRead::Refused(e),
-        PairRead::Pair {
-            first: joint_angle,
-            second: wetted_ratio,
-            next,
-        } => match read_roughness(map / 64 % 2 == 1, s, next) {
-            RoughnessRead::Refused(e) => PartRead::Refused(e),
-            RoughnessRead::Roughness {
-                value: roughness,
-                next: last,
-            } => PartRead::Read {
-                part: Part {
-                    shape,
-                    length,
-                    aft_diameter,
-                    joint_angle,
-                    wetted_ratio,
-                    roughness,
-                },
-                next: last,
-            },
-        },
+    // The columns, and with them the settings, once D, the roughness, B and the number of columns
+    // are read.
+    #[tactic(auto, unfolding(crate::specs::Cards::columns_at))]
+    fn columns(&mut self, d: f64, roughness: f64, b: f64, n: u8) -> Result<Settings, AeroError>
+        ensures { Took (columns_at d roughness b n) self.old result self.new }
+    {
+        let count = usize::from(n);
+        unless(COLUMNS < count, Rule::TooManyColumns)?;
+        unless(!self.has(PAIR_BYTES * count), Rule::CardEnds)?;
+        let machs = numbers_at(count, self.bytes, self.at);
+        let reynolds = numbers_at(count, self.bytes, self.at + NUMBER_BYTES);
+        self.at += PAIR_BYTES * count;
+        Ok(Settings {
+            reference_diameter: d,
+            roughness,
+            body_fineness: b,
+            count,
+            machs,
+            reynolds,
+        })
     }
-}
 
-// L and d, then the last fields.
-fn read_rest(shape: NoseShape, map: u8, s: &[u8], at: usize) -> PartRead
-    ensures { result ≡ rest_at shape map s.now at }
-{
-    match read_pair(map / 4 % 2 == 1, map / 8 % 2 == 1, s, at) {
-        PairRead::Refused(e) => PartRead::Refused(e),
-        PairRead::Pair {
-            first: length,
-            second: aft_diameter,
-            next,
-        } => read_last(shape, length, aft_diameter, map, s, next),
+    // A settings card whose bit map is read.
+    #[tactic(auto, unfolding(crate::specs::Cards::settings_fields))]
+    fn settings(&mut self, map: u8) -> Result<Settings, AeroError>
+        ensures { Took (settings_fields map) self.old result self.new }
+    {
+        unless(15 < map, Rule::ReservedBit)?;
+        unless(!bit(map, 0), Rule::FieldMissing)?;
+        unless(!bit(map, 2), Rule::FieldMissing)?;
+        let d = self.number(true)?;
+        let roughness = self.number(bit(map, 1))?;
+        let b = self.number(true)?;
+        let n = self.byte(bit(map, 3))?;
+        self.columns(d, roughness, b, n)
     }
 }
 
-// A part card whose bit map is read.
-fn read_part_fields(map: u8, s: &[u8], at: usize) -> PartRead
-    ensures { result ≡ part_fields map s.now at }
-{
-    if 127 < map {
-        return PartRead::Refused(AeroError::Broken(Rule::ReservedBit));
-    }
-    match read_shape(map, s, at) {
-        ShapeRead::Refused(e) => PartRead::Refused(e),
-        ShapeRead::Shape { shape, next } => read_rest(shape, map, s, next),
-    }
-}
-
-// A part card.
-pub fn read_part(s: &[u8], at: usize) -> PartRead
+// A part card, and the position after it.
+#[tactic(auto, unfolding(crate::specs::Cards::part_at))]
+pub fn read_part(s: &[u8], at: usize) -> Result<(Part, usize), AeroError>
     ensures { result ≡ part_at s.now at }
 {
-    match read_byte(true, s, at) {
-        ByteRead::Refused(e) => PartRead::Refused(e),
-        ByteRead::Byte { value, next } => read_part_fields(value, s, next),
-    }
+    let mut reader = Reader { bytes: s, at };
+    let map = reader.byte(true)?;
+    let part = reader.part(map)?;
+    Ok((part, reader.at))
 }
 
-// ---- settings cards
-
-fn no_settings(e: AeroError) -> SettingsRead
-    ensures { result ≡ no_settings e }
-{
-    SettingsRead {
-        outcome: Check::Failed(e),
-        settings: Settings {
-            reference_diameter: 0.0,
-            roughness: 0.0,
-            body_fineness: 0.0,
-            count: 0,
-            machs: [0.0; COLUMNS],
-            reynolds: [0.0; COLUMNS],
-        },
-        next: 0,
-    }
-}
-
-// The columns, once D, the roughness, B and the number of columns are read.
-fn read_columns(d: f64, roughness: f64, b: f64, n: u8, s: &[u8], at: usize) -> SettingsRead
-    ensures { result ≡ columns_at d roughness b n s.now at }
-{
-    let count = n as usize;
-    if COLUMNS < count {
-        return no_settings(AeroError::Broken(Rule::TooManyColumns));
-    }
-    if has(s, at, PAIR_BYTES * count) {
-        let machs = read_numbers(count, s, at);
-        let reynolds = read_numbers(count, s, at + NUMBER_BYTES);
-        return SettingsRead {
-            outcome: Check::Passed,
-            settings: Settings {
-                reference_diameter: d,
-                roughness,
-                body_fineness: b,
-                count,
-                machs,
-                reynolds,
-            },
-            next: at + PAIR_BYTES * count,
-        };
-    }
-    no_settings(AeroError::Broken(Rule::CardEnds))
-}
-
-// B and the count byte, then the columns.
-fn read_fineness(map: u8, d: f64, roughness: f64, s: &[u8], at: usize) -> SettingsRead
-    ensures { result ≡ fineness_at map d roughness s.now at }
-{
-    match read_number(true, s, at) {
-        NumberRead::Refused(e) => no_settings(e),
-        NumberRead::Number { value: b, next } => match read_byte(map / 8 % 2 == 1, s, next) {
-            ByteRead::Refused(e) => no_settings(e),
-            ByteRead::Byte {
-                value: n,
-                next: last,
-            } => read_columns(d, roughness, b, n, s, last),
-        },
-    }
-}
-
-// A settings card whose bit map is read.
-fn read_settings_fields(map: u8, s: &[u8], at: usize) -> SettingsRead
-    ensures { result ≡ settings_fields map s.now at }
-{
-    if 15 < map {
-        return no_settings(AeroError::Broken(Rule::ReservedBit));
-    }
-    if map / 1 % 2 != 1 {
-        return no_settings(AeroError::Broken(Rule::FieldMissing));
-    }
-    if map / 4 % 2 != 1 {
-        return no_settings(AeroError::Broken(Rule::FieldMissing));
-    }
-    match read_pair(true, map / 2 % 2 == 1, s, at) {
-        PairRead::Refused(e) => no_settings(e),
-        PairRead::Pair {
-            first: d,
-            second: roughness,
-            next,
-        } => read_fineness(map, d, roughness, s, next),
-    }
-}
-
-// A settings card.
-pub fn read_settings(s: &[u8], at: usize) -> SettingsRead
+// A settings card, and the position after it.
+#[tactic(auto, unfolding(crate::specs::Cards::settings_at))]
+pub fn read_settings(s: &[u8], at: usize) -> Result<(Settings, usize), AeroError>
     ensures { result ≡ settings_at s.now at }
 {
-    match read_byte(true, s, at) {
-        ByteRead::Refused(e) => no_settings(e),
-        ByteRead::Byte { value, next } => read_settings_fields(value, s, next),
+    let mut reader = Reader { bytes: s, at };
+    let map = reader.byte(true)?;
+    let settings = reader.settings(map)?;
+    Ok((settings, reader.at))
+}
+
+// Settings that say nothing, for a run whose settings card is refused.
+pub fn no_settings() -> Settings
+    ensures { result ≡ no_settings }
+{
+    Settings {
+        reference_diameter: 0.0,
+        roughness: 0.0,
+        body_fineness: 0.0,
+        count: 0,
+        machs: [0.0; COLUMNS],
+        reynolds: [0.0; COLUMNS],
     }
 }
