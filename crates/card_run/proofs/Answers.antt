@@ -1,5 +1,7 @@
 -- What the calls below a run say by their outcome, that an accepted one leaves a sheet that fits its cells, a run's contract once it is known where it stops, and
 -- what a stream comes to by its settings card.
+use Rattle.std.specs.Prelude.{Ok, Err}
+use Rattle.aero_error.specs.Checks.{Check}
 use mathlib.Core.Path.{◌≡◌, refl, sym, ap, ◌∙◌, subst}
 use mathlib.Core.List.{List, [], ◌∷◌}
 use Prim.Native.Nat.{ℕ, ◌+◌, ◌≤◌, ◌<◌, min}
@@ -7,8 +9,6 @@ use native.Mathlib.Omega.{arith}
 use lib.ListN.{length, take, drop, length-append, length-take, length-drop}
 use lib.Ieee.{Float}
 use Rattle.aero_error.specs.declared.AeroError.{AeroError}
-use Rattle.aero_error.specs.declared.Check.{Check}
-use Rattle.aero_error.specs.declared.Check.TheVariants.{Passed, Failed}
 use Rattle.aero_error.specs.CheckLaws.{both_passed}
 use Rattle.sheet_data.specs.declared.Settings.{Settings}
 use Rattle.sheet_data.specs.declared.Part.{Part}
@@ -16,46 +16,44 @@ use Rattle.sheet_data.specs.declared.Sheet.{Sheet}
 use Rattle.sheet_data.specs.Layout.{most_parts}
 use Rattle.sheet_data.specs.Contents.{contents_of, blank, Fits}
 use Rattle.sheet_data.specs.Tests.{settings_test}
-use Rattle.drag_sheet.specs.declared.Answer.{Answer}
+use Rattle.drag_sheet.specs.Calls.{Answer, Call, insert, tries, after, call_test, decision, answered, Called, Opened}
 use Rattle.drag_sheet.specs.Writing.{chosen, whole, overwritten}
-use Rattle.drag_sheet.specs.Calls.{Call, insert, tries, after, call_test, decision, answered, Called, Opened}
 use Rattle.drag_sheet.proofs.Verdicts.{never}
 use Rattle.drag_sheet.proofs.Answers.{settings_facts, call_facts, bounds}
-use Rattle.cards.specs.declared.SettingsRead.{SettingsRead}
 use Rattle.cards.specs.Cards.{settings_at}
 use Rattle.card_run.specs.declared.Run.{Run}
-use Rattle.card_run.specs.Run.{Ran, stopped_at, no_card, first_card, stream_of, last_place, insert_last, sheet_after, cells_after, all_part_cards, Stopped}
+use Rattle.card_run.specs.Run.{FirstCard, unsaid, first_read, Ran, stopped_at, first_card, stream_of, last_place, insert_last, sheet_after, cells_after, all_part_cards, Stopped}
 use Rattle.card_run.proofs.Stream.{sheet_then, outcome}
 
 -- ---- what a call's contract says, by its outcome: of the sheet given or left, of the cells xs or zs
 
 module _ (d : Check) (given left : Sheet) (xs zs : List Float) (r : Answer) (ys : List Float) (a : r ≡ answered d given left) (l : ys ≡ chosen d xs zs) where
-  refused_answer : (e : AeroError) → r.outcome ≡ Failed e → (d ≡ Failed e) × (r.sheet ≡ given) × (ys ≡ xs)
+  refused_answer : (e : AeroError) → r.outcome ≡ Err e → (d ≡ Err e) × (r.sheet ≡ given) × (ys ≡ xs)
   refused_answer e o = by_cases d refl a l
     where
-      by_cases : (z : Check) → d ≡ z → r ≡ answered z given left → ys ≡ chosen z xs zs → (d ≡ Failed e) × (r.sheet ≡ given) × (ys ≡ xs)
-      by_cases Passed p a l = never o (ap (λ (x : Answer). x.outcome) a)
-      by_cases (Failed f) p a l = (p ∙ sym (ap (λ (x : Answer). x.outcome) a) ∙ o, ap (λ (x : Answer). x.sheet) a, l)
+      by_cases : (z : Check) → d ≡ z → r ≡ answered z given left → ys ≡ chosen z xs zs → (d ≡ Err e) × (r.sheet ≡ given) × (ys ≡ xs)
+      by_cases (Ok _) p a l = never o (ap (λ (x : Answer). x.outcome) a)
+      by_cases (Err f) p a l = (p ∙ sym (ap (λ (x : Answer). x.outcome) a) ∙ o, ap (λ (x : Answer). x.sheet) a, l)
 
-  accepted_answer : r.outcome ≡ Passed → (d ≡ Passed) × (r.sheet ≡ left) × (ys ≡ zs)
+  accepted_answer : r.outcome ≡ Ok tt → (d ≡ Ok tt) × (r.sheet ≡ left) × (ys ≡ zs)
   accepted_answer o = by_cases d refl a l
     where
-      by_cases : (z : Check) → d ≡ z → r ≡ answered z given left → ys ≡ chosen z xs zs → (d ≡ Passed) × (r.sheet ≡ left) × (ys ≡ zs)
-      by_cases Passed p a l = (p, ap (λ (x : Answer). x.sheet) a, l)
-      by_cases (Failed f) p a l = never (ap (λ (x : Answer). x.outcome) a) o
+      by_cases : (z : Check) → d ≡ z → r ≡ answered z given left → ys ≡ chosen z xs zs → (d ≡ Ok tt) × (r.sheet ≡ left) × (ys ≡ zs)
+      by_cases (Ok _) p a l = (p, ap (λ (x : Answer). x.sheet) a, l)
+      by_cases (Err f) p a l = never (ap (λ (x : Answer). x.outcome) a) o
 
 module _ {call : Call} {sheet : Sheet} {xs : List Float} {r : Answer} {ys : List Float} (c : Called call sheet xs r ys) where
-  pub refused_call : (e : AeroError) → r.outcome ≡ Failed e → (decision call sheet (length xs) ≡ Failed e) × (r.sheet ≡ sheet) × (ys ≡ xs)
+  pub refused_call : (e : AeroError) → r.outcome ≡ Err e → (decision call sheet (length xs) ≡ Err e) × (r.sheet ≡ sheet) × (ys ≡ xs)
   refused_call = refused_answer (decision call sheet (length xs)) sheet (sheet_after call sheet) xs (cells_after call sheet xs) r ys c.answer c.left
 
-  pub accepted_call : r.outcome ≡ Passed → (decision call sheet (length xs) ≡ Passed) × (r.sheet ≡ sheet_after call sheet) × (ys ≡ cells_after call sheet xs)
+  pub accepted_call : r.outcome ≡ Ok tt → (decision call sheet (length xs) ≡ Ok tt) × (r.sheet ≡ sheet_after call sheet) × (ys ≡ cells_after call sheet xs)
   accepted_call = accepted_answer (decision call sheet (length xs)) sheet (sheet_after call sheet) xs (cells_after call sheet xs) r ys c.answer c.left
 
 module _ {s : Settings} {xs : List Float} {r : Answer} {ys : List Float} (c : Opened s xs r ys) where
-  pub refused_open : (e : AeroError) → r.outcome ≡ Failed e → (settings_test s (length xs) ≡ Failed e) × (r.sheet ≡ blank s) × (ys ≡ xs)
+  pub refused_open : (e : AeroError) → r.outcome ≡ Err e → (settings_test s (length xs) ≡ Err e) × (r.sheet ≡ blank s) × (ys ≡ xs)
   refused_open = refused_answer (settings_test s (length xs)) (blank s) (blank s) xs (overwritten whole (contents_of (blank s)) xs) r ys c.answer c.left
 
-  pub accepted_open : r.outcome ≡ Passed → (settings_test s (length xs) ≡ Passed) × (r.sheet ≡ blank s) × (ys ≡ overwritten whole (contents_of (blank s)) xs)
+  pub accepted_open : r.outcome ≡ Ok tt → (settings_test s (length xs) ≡ Ok tt) × (r.sheet ≡ blank s) × (ys ≡ overwritten whole (contents_of (blank s)) xs)
   accepted_open = accepted_answer (settings_test s (length xs)) (blank s) (blank s) xs (overwritten whole (contents_of (blank s)) xs) r ys c.answer c.left
 
 -- ---- an accepted part leaves a sheet within its bounds
@@ -77,26 +75,26 @@ pub record Inserted (sheet : Sheet) (cells : ℕ) : Type 0 where
   pub fits : Fits sheet cells
   pub room : sheet.design.count < most_parts
 
-pub accepted_part : (sheet : Sheet) (cells : ℕ) (part : Part) → decision (insert_last sheet part) sheet cells ≡ Passed → Inserted sheet cells
+pub accepted_part : (sheet : Sheet) (cells : ℕ) (part : Part) → decision (insert_last sheet part) sheet cells ≡ Ok tt → Inserted sheet cells
 accepted_part sheet cells part e =
     let call = insert_last sheet part in
     let f = call_facts call sheet cells (both_passed (call_test call sheet cells) (tries call (after call sheet)) e).first in
     record { fits = f.fits; room = (bounds call sheet.settings sheet.design.count f.arguments).1 }
 
-pub fits_after : (sheet : Sheet) (part : Part) (cells : ℕ) → decision (insert_last sheet part) sheet cells ≡ Passed → Fits (sheet_then sheet part) cells
+pub fits_after : (sheet : Sheet) (part : Part) (cells : ℕ) → decision (insert_last sheet part) sheet cells ≡ Ok tt → Fits (sheet_then sheet part) cells
 fits_after sheet part cells d =
     let f = accepted_part sheet cells part d in
     let m = one_more sheet part in
     record { columns = f.fits.columns; parts = omega (arith, m, f.room); room = f.fits.room }
 
 -- an opened sheet is within its bounds
-pub fits_open : (s : Settings) (cells : ℕ) → settings_test s cells ≡ Passed → Fits (blank s) cells
+pub fits_open : (s : Settings) (cells : ℕ) → settings_test s cells ≡ Ok tt → Fits (blank s) cells
 fits_open s cells d = let f = settings_facts s cells d in record { columns = f.0; parts = omega arith; room = f.1 }
 
 -- ---- a run's contract, once it is known where the run stops
 
 pub stopped_at_lem : (ran : Ran) (card : ℕ) (o : Check) (sheet : Sheet) (ys : List Float) (r : Run) → ran ≡ stopped_at card o sheet ys
-    → r ≡ record { outcome = o; card = card; sheet = sheet } → card ≤ most_parts + 1 → (o ≡ Passed → Fits sheet (length ys)) → Stopped ran r ys
+    → r ≡ record { outcome = o; card = card; sheet = sheet } → card ≤ most_parts + 1 → (o ≡ Ok tt → Fits sheet (length ys)) → Stopped ran r ys
 stopped_at_lem ran card o sheet ys r e i h k =
     let n : r.card ≡ card = ap (λ (x : Run). x.card) i in
     record {
@@ -108,36 +106,36 @@ stopped_at_lem ran card o sheet ys r e i h k =
 
 -- ---- the settings card is asked of every stream that has a byte
 
-pub first_of_none : (s : List ℕ) → length s ≡ 0 → first_card s ≡ no_card
+pub first_of_none : (s : List ℕ) → length s ≡ 0 → first_read s ≡ Ok (unsaid, 0)
 first_of_none [] e = refl
 first_of_none (b ∷ s) e = absurd (omega arith)
 
-pub first_of_some : (s : List ℕ) → 0 < length s → first_card s ≡ settings_at s 0
+pub first_of_some : (s : List ℕ) → 0 < length s → first_read s ≡ settings_at s 0
 first_of_some [] h = absurd (omega arith)
 first_of_some (b ∷ s) h = refl
 
 -- ---- a stream whose settings card reads as `card`
 
-module _ (s : List ℕ) (xs : List Float) (card : SettingsRead) (i : card ≡ first_card s) where
-  pub stream_unread : (e : AeroError) → card.outcome ≡ Failed e → stream_of s xs ≡ stopped_at 0 (Failed e) (blank card.settings) xs
+module _ (s : List ℕ) (xs : List Float) (card : FirstCard) (i : card ≡ first_card s) where
+  pub stream_unread : (e : AeroError) → card.outcome ≡ Err e → stream_of s xs ≡ stopped_at 0 (Err e) (blank card.settings) xs
   unfolding stream_of
   stream_unread e o = rw (← i, o)
 
-  pub stream_unopened : (e : AeroError) → card.outcome ≡ Passed → settings_test card.settings (length xs) ≡ Failed e
-      → stream_of s xs ≡ stopped_at 0 (Failed e) (blank card.settings) xs
+  pub stream_unopened : (e : AeroError) → card.outcome ≡ Ok tt → settings_test card.settings (length xs) ≡ Err e
+      → stream_of s xs ≡ stopped_at 0 (Err e) (blank card.settings) xs
   unfolding stream_of
   stream_unopened e o t = rw (← i, o, t)
 
-  pub stream_opened : card.outcome ≡ Passed → settings_test card.settings (length xs) ≡ Passed
+  pub stream_opened : card.outcome ≡ Ok tt → settings_test card.settings (length xs) ≡ Ok tt
       → stream_of s xs ≡ all_part_cards s card.next (blank card.settings) (overwritten whole (contents_of (blank card.settings)) xs)
   unfolding stream_of
   stream_opened o t = rw (← i, o, t)
 
   -- of a stream that is accepted the card was read and its settings passed
-  pub stream_passed : outcome (stream_of s xs) ≡ Passed → (card.outcome ≡ Passed) × (settings_test card.settings (length xs) ≡ Passed)
+  pub stream_passed : outcome (stream_of s xs) ≡ Ok tt → (card.outcome ≡ Ok tt) × (settings_test card.settings (length xs) ≡ Ok tt)
   stream_passed o = by card.outcome (settings_test card.settings (length xs)) refl refl
     where
-      by : (c d : Check) → card.outcome ≡ c → settings_test card.settings (length xs) ≡ d → (card.outcome ≡ Passed) × (settings_test card.settings (length xs) ≡ Passed)
-      by (Failed e) d p q = never (ap outcome (stream_unread e p)) o
-      by Passed (Failed e) p q = never (ap outcome (stream_unopened e p q)) o
-      by Passed Passed p q = (p, q)
+      by : (c d : Check) → card.outcome ≡ c → settings_test card.settings (length xs) ≡ d → (card.outcome ≡ Ok tt) × (settings_test card.settings (length xs) ≡ Ok tt)
+      by (Err e) d p q = never (ap outcome (stream_unread e p)) o
+      by (Ok _) (Err e) p q = never (ap outcome (stream_unopened e p q)) o
+      by (Ok _) (Ok _) p q = (p, q)

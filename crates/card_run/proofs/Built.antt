@@ -1,5 +1,7 @@
 -- An accepted stream's cells are one build from nothing of the settings and the parts that its cards say. It is the theorem over lists of calls (`lists_agree`) for
 -- the list that a run makes: an open, and for each part card an insert at the end.
+use Rattle.std.specs.Prelude.{Ok, Err}
+use Rattle.aero_error.specs.Checks.{Check}
 use mathlib.Core.Path.{◌≡◌, refl, sym, ap, ◌∙◌, subst}
 use mathlib.Core.List.{List, [], ◌∷◌, ◌++◌, append_assoc, append-nil}
 use Prim.Native.Nat.{ℕ, zero, suc, ◌+◌, ◌-◌, ◌≤◌}
@@ -8,24 +10,23 @@ use lib.ListN.{length, length-append}
 use lib.Seq.{take-length, drop-length}
 use lib.Ieee.{Float}
 use borrow.Author.Tests.{le-ltb, lt-ltb}
-use Rattle.aero_error.specs.declared.Check.{Check}
-use Rattle.aero_error.specs.declared.Check.TheVariants.{Passed}
 use Rattle.aero_error.specs.Told.{all_told_apart}
+use Rattle.sheet_data.specs.declared.Settings.{Settings}
 use Rattle.sheet_data.specs.declared.Part.{Part}
 use Rattle.sheet_data.specs.declared.Sheet.{Sheet}
 use Rattle.sheet_data.specs.Contents.{Contents, contents_of, blank}
 use Rattle.sheet_data.specs.Tests.{settings_test}
-use Rattle.drag_sheet.specs.declared.Answer.{Answer}
+use Rattle.drag_sheet.specs.Calls.{Answer, Call, insert, insert_at, Called, Opened}
 use Rattle.drag_sheet.specs.Writing.{whole, overwritten}
-use Rattle.drag_sheet.specs.Calls.{Call, insert, insert_at, Called, Opened}
 use Rattle.drag_sheet.specs.Model.{opened_model, model_decision, moved, model_after, model_decisions}
 use Rattle.drag_sheet.specs.Lists.{Sequence, stop, go, Matches}
 use Rattle.drag_sheet.proofs.TestsKept.{Tested, tested_open, tested_through}
 use Rattle.drag_sheet.proofs.ListsLaw.{lists_agree}
-use Rattle.cards.specs.declared.SettingsRead.{SettingsRead}
-use Rattle.cards.proofs.Arrays.{Long, settings_long}
+use Rattle.cards.proofs.Arrays.{Long, LongRead, no_settings_long, settings_long}
+use Rattle.cards.specs.Fields.{Read}
+use Rattle.cards.specs.Cards.{settings_at}
 use Rattle.card_run.specs.declared.Run.{Run}
-use Rattle.card_run.specs.Run.{Ran, insert_last, all_part_cards, first_card, stream_of, Stopped}
+use Rattle.card_run.specs.Run.{FirstCard, card_of, Ran, insert_last, all_part_cards, first_card, stream_of, Stopped}
 use Rattle.card_run.specs.Said.{parts_said, said}
 use Rattle.card_run.proofs.Stream.{sheet_then, cells_then, part_reach, cards_end, part_accepted, outcome, Turn, ended, carded, turn}
 use Rattle.card_run.proofs.Prefix.{Held, one_more_held}
@@ -40,14 +41,14 @@ inserts count (p ∷ ps) = insert count p ∷ inserts (count + 1) ps
 
 abbrev accepted : List Part → List Check
 accepted [] = []
-accepted (p ∷ ps) = Passed ∷ accepted ps
+accepted (p ∷ ps) = Ok tt ∷ accepted ps
 
 -- a part inserted at the end stands after the others
 at_end : (p : Part) (ps : List Part) → insert_at (length ps) p ps ≡ ps ++ (p ∷ [])
 at_end p ps = rw (take-length ps, drop-length ps)
 
 abbrev head_of : List Check → Check
-head_of [] = Passed
+head_of [] = Ok tt
 head_of (c ∷ cs) = c
 
 abbrev tail_of : List Check → List Check
@@ -62,7 +63,7 @@ appended cells [] m e = rw (append-nil m.parts)
 appended cells (p ∷ ps) m e =
     let call = insert (length m.parts) p in
     let new : Contents = record { settings = m.settings; parts = m.parts ++ (p ∷ []); nozzle = m.nozzle } in
-    let d : model_decision cells call m ≡ Passed = ap head_of e in
+    let d : model_decision cells call m ≡ Ok tt = ap head_of e in
     let n : length (m.parts ++ (p ∷ [])) ≡ length m.parts + 1 = length-append m.parts (p ∷ []) in
     let w : moved cells call m ≡ new = rw (d, at_end p m.parts) in
     let f : model_decisions cells (inserts (length new.parts) ps) new ≡ accepted ps =
@@ -75,7 +76,7 @@ appended cells (p ∷ ps) m e =
 -- ---- a run that stops well made these calls, and each was accepted
 
 abbrev Ends : Sheet → List Float → Ran → List Part → Type 0
-Ends sheet xs ran ps = outcome ran ≡ Passed → Sequence sheet xs (inserts sheet.design.count ps) ran.run.sheet ran.cells (accepted ps)
+Ends sheet xs ran ps = outcome ran ≡ Ok tt → Sequence sheet xs (inserts sheet.design.count ps) ran.run.sheet ran.cells (accepted ps)
 
 -- one turn, where what follows it is known
 module _ (n : ℕ) (s : List ℕ) (at : ℕ) (sheet : Sheet) (xs : List Float) (held : Held sheet)
@@ -84,7 +85,7 @@ module _ (n : ℕ) (s : List ℕ) (at : ℕ) (sheet : Sheet) (xs : List Float) (
   unfolding parts_said
   called (ended l) o = rw (cards_end s at sheet xs l, le-ltb at (length s) l) stop
   called (carded part next h p d) o =
-      let r : Answer = record { outcome = Passed; sheet = sheet_then sheet part } in
+      let r : Answer = record { outcome = Ok tt; sheet = sheet_then sheet part } in
       let c : Called (insert_last sheet part) sheet xs r (cells_then sheet part xs) = record { answer = rw d; left = rw d } in
       let same = part_accepted s at sheet xs part next h p d in
       let rest = all_part_cards s next (sheet_then sheet part) (cells_then sheet part xs) in
@@ -100,24 +101,28 @@ sequence (suc n) s at sheet xs h l o =
 
 -- ---- the whole stream
 
-first_arrays : (s : List ℕ) → Long (first_card s)
+first_arrays : (s : List ℕ) → Long (first_card s).settings
 first_arrays [] = (refl, refl)
-first_arrays (b ∷ s) = settings_long (b ∷ s) 0
+first_arrays (b ∷ s) = by (settings_at (b ∷ s) 0) (settings_long (b ∷ s) 0)
+  where
+    by : (r : Read Settings) → LongRead r → Long (card_of r).settings
+    by (Ok (settings, next)) h = h
+    by (Err e) h = no_settings_long
 
 module _ (s : List ℕ) (xs : List Float) where
-  abbrev card : SettingsRead
+  abbrev card : FirstCard
   card = first_card s
 
   abbrev opened : Ran
   opened = all_part_cards s card.next (blank card.settings) (overwritten whole (contents_of (blank card.settings)) xs)
 
   -- what the model holds then is what the cards say, and it passes the tests of a sheet given
-  built_from : settings_test card.settings (length xs) ≡ Passed → outcome opened ≡ Passed → Matches opened.run.sheet opened.cells (said s) × Tested (said s) (length xs)
+  built_from : settings_test card.settings (length xs) ≡ Ok tt → outcome opened ≡ Ok tt → Matches opened.run.sheet opened.cells (said s) × Tested (said s) (length xs)
   built_from t o =
       let sheet = blank card.settings in
       let ys = overwritten whole (contents_of sheet) xs in
       let ps = parts_said (length s) s card.next in
-      let answer : Answer = record { outcome = Passed; sheet = sheet } in
+      let answer : Answer = record { outcome = Ok tt; sheet = sheet } in
       let z : Opened card.settings xs answer ys = record { answer = rw t; left = rw t } in
       let long = first_arrays s in
       let a = (lists_agree card.settings xs answer ys long.0 long.1 z).accepted refl (sequence (length s) s card.next sheet ys (omega arith) (omega arith) o) in
@@ -126,20 +131,20 @@ module _ (s : List ℕ) (xs : List Float) where
       let tested = tested_through (length xs) (inserts 0 ps) (opened_model card.settings) (tested_open card.settings (length xs) t) in
       (subst (Matches opened.run.sheet opened.cells) model a.matches, subst (λ (c : Contents). Tested c (length xs)) model tested)
 
-  both : outcome (stream_of s xs) ≡ Passed → Matches (stream_of s xs).run.sheet (stream_of s xs).cells (said s) × Tested (said s) (length xs)
+  both : outcome (stream_of s xs) ≡ Ok tt → Matches (stream_of s xs).run.sheet (stream_of s xs).cells (said s) × Tested (said s) (length xs)
   both o =
       let q = stream_passed s xs card refl o in
       let e = stream_opened s xs card refl q.0 q.1 in
       rw e (built_from q.1 (ap outcome (sym e) ∙ o))
 
   -- the settings and the design are what the cards say, and the rows are one build of them
-  pub stream_built : outcome (stream_of s xs) ≡ Passed → Matches (stream_of s xs).run.sheet (stream_of s xs).cells (said s)
+  pub stream_built : outcome (stream_of s xs) ≡ Ok tt → Matches (stream_of s xs).run.sheet (stream_of s xs).cells (said s)
   stream_built o = (both o).0
 
   -- and they pass the tests of a sheet given
-  pub stream_tested : outcome (stream_of s xs) ≡ Passed → Tested (said s) (length xs)
+  pub stream_tested : outcome (stream_of s xs) ≡ Ok tt → Tested (said s) (length xs)
   stream_tested o = (both o).1
 
 -- the same of what `run_stream` answers and leaves
-pub run_built : (s : List ℕ) (xs : List Float) (r : Run) (ys : List Float) → Stopped (stream_of s xs) r ys → r.outcome ≡ Passed → Matches r.sheet ys (said s)
+pub run_built : (s : List ℕ) (xs : List Float) (r : Run) (ys : List Float) → Stopped (stream_of s xs) r ys → r.outcome ≡ Ok tt → Matches r.sheet ys (said s)
 run_built s xs r ys z o = rw (z.answer, z.left) (stream_built s xs (ap (λ (x : Run). x.outcome) (sym z.answer) ∙ o))

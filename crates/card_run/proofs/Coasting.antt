@@ -1,5 +1,8 @@
 -- No card carries a nozzle diameter, so a stream's answer is the one of document 01: every sheet of a run coasts (then its tests are those without a nozzle diameter,
 -- `coasting_tests` of `drag_sheet`), and the base row of an accepted stream is "base drag at M × ((last d × last d)/(D×D))".
+use Rattle.cards.specs.Fields.{Read}
+use Rattle.std.specs.Prelude.{Ok, Err}
+use Rattle.aero_error.specs.Checks.{Check}
 use mathlib.Core.Path.{◌≡◌, refl, sym, ◌∙◌}
 use mathlib.Core.Bool.{Bool, true, false, cond}
 use mathlib.Core.List.{List}
@@ -10,8 +13,6 @@ use lib.Dec.{ltb}
 use lib.Ieee.{Float}
 use Rattle.elementary.specs.Arithmetic.{◌⊗◌, ◌⊘◌}
 use Rattle.elementary.specs.Constants.{0·0}
-use Rattle.aero_error.specs.declared.Check.{Check}
-use Rattle.aero_error.specs.declared.Check.TheVariants.{Passed, Failed}
 use Rattle.drag.specs.Pressure.{base_drag_coefficient}
 use Rattle.sheet_data.specs.declared.Part.{Part}
 use Rattle.sheet_data.specs.declared.Sheet.{Sheet}
@@ -28,8 +29,6 @@ use Rattle.drag_sheet.specs.Calls.{decision}
 use Rattle.drag_sheet.proofs.RowKinds.{row_wide}
 use Rattle.drag_sheet.proofs.MadeRows.{base_made}
 use Rattle.drag_sheet.proofs.BaseArea.{coasting_base}
-use Rattle.cards.specs.declared.PartRead.{PartRead}
-use Rattle.cards.specs.declared.PartRead.TheVariants.{Read, Refused as NoPart}
 use Rattle.cards.specs.Cards.{part_at}
 use Rattle.card_run.specs.Run.{Ran, stopped, on_part, on_check, insert_last, sheet_after, cells_after, part_card, part_cards, all_part_cards, stopped_at, first_card, stream_of}
 use Rattle.card_run.specs.Said.{said}
@@ -45,20 +44,20 @@ nozzle_of ran = ran.run.sheet.nozzle_diameter
 module _ (s : List ℕ) (at : ℕ) (sheet : Sheet) (xs : List Float) (go : ℕ → Sheet → List Float → Ran)
     (keeps : (next : ℕ) (after : Sheet) (ys : List Float) → nozzle_of (go next after ys) ≡ after.nozzle_diameter) where
   decided : (part : Part) (next : ℕ) (d : Check)
-      → nozzle_of (on_check d (λ e. stopped (Failed e) sheet xs) (go next (sheet_after (insert_last sheet part) sheet) (cells_after (insert_last sheet part) sheet xs))) ≡ sheet.nozzle_diameter
-  decided part next (Failed e) = refl
-  decided part next Passed = keeps next (sheet_after (insert_last sheet part) sheet) (cells_after (insert_last sheet part) sheet xs)
+      → nozzle_of (on_check d (λ e. stopped (Err e) sheet xs) (go next (sheet_after (insert_last sheet part) sheet) (cells_after (insert_last sheet part) sheet xs))) ≡ sheet.nozzle_diameter
+  decided part next (Err e) = refl
+  decided part next (Ok _) = keeps next (sheet_after (insert_last sheet part) sheet) (cells_after (insert_last sheet part) sheet xs)
 
-  read : (r : PartRead)
-      → nozzle_of (on_part r (λ e. stopped (Failed e) sheet xs) λ part next. on_check (decision (insert_last sheet part) sheet (length xs)) (λ e. stopped (Failed e) sheet xs) (go next (sheet_after (insert_last sheet part) sheet) (cells_after (insert_last sheet part) sheet xs)))
+  read : (r : Read Part)
+      → nozzle_of (on_part r (λ e. stopped (Err e) sheet xs) λ part next. on_check (decision (insert_last sheet part) sheet (length xs)) (λ e. stopped (Err e) sheet xs) (go next (sheet_after (insert_last sheet part) sheet) (cells_after (insert_last sheet part) sheet xs)))
       ≡ sheet.nozzle_diameter
-  read (NoPart e) = refl
-  read (Read part next) = decided part next (decision (insert_last sheet part) sheet (length xs))
+  read (Err e) = refl
+  read (Ok (part, next)) = decided part next (decision (insert_last sheet part) sheet (length xs))
 
   card_keeps : nozzle_of (part_card s at sheet xs go) ≡ sheet.nozzle_diameter
   card_keeps = by _ (ltb at (length s)) (read (part_at s at))
     where
-      by : (carded : Ran) (more : Bool) → nozzle_of carded ≡ sheet.nozzle_diameter → nozzle_of (cond more carded (stopped Passed sheet xs)) ≡ sheet.nozzle_diameter
+      by : (carded : Ran) (more : Bool) → nozzle_of carded ≡ sheet.nozzle_diameter → nozzle_of (cond more carded (stopped (Ok tt) sheet xs)) ≡ sheet.nozzle_diameter
       by carded true h = h
       by carded false h = refl
 
@@ -75,13 +74,13 @@ stream_coasts s xs =
     let cards = all_part_cards s (first_card s).next sheet (overwritten whole (contents_of sheet) xs) in
     by _ (first_card s).outcome sheet refl (by cards (settings_test (first_card s).settings (length xs)) sheet refl (cards_keep (length s) s (first_card s).next sheet _))
   where
-    by : (ran : Ran) (c : Check) (sheet : Sheet) → sheet.nozzle_diameter ≡ 0·0 → nozzle_of ran ≡ 0·0 → nozzle_of (on_check c (λ e. stopped_at 0 (Failed e) sheet xs) ran) ≡ 0·0
-    by ran (Failed e) sheet z h = z
-    by ran Passed sheet z h = h
+    by : (ran : Ran) (c : Check) (sheet : Sheet) → sheet.nozzle_diameter ≡ 0·0 → nozzle_of ran ≡ 0·0 → nozzle_of (on_check c (λ e. stopped_at 0 (Err e) sheet xs) ran) ≡ 0·0
+    by ran (Err e) sheet z h = z
+    by ran (Ok _) sheet z h = h
 
 -- ---- the base row of an accepted stream
 
-pub stream_base : (s : List ℕ) (xs : List Float) → outcome (stream_of s xs) ≡ Passed → let c = said s in let D = c.settings.reference_diameter in
+pub stream_base : (s : List ℕ) (xs : List Float) → outcome (stream_of s xs) ≡ Ok tt → let c = said s in let D = c.settings.reference_diameter in
     row_at c.settings.count (stream_of s xs).cells (base_row finishes) ≡ tab c.settings.count (λ k. value_of (base_drag_coefficient (mach_at c.settings k)) ⊗ (last_diameter c ⊗ last_diameter c ⊘ (D ⊗ D)))
 unfolding build base_cell
 stream_base s xs o =

@@ -1,12 +1,12 @@
 -- Two tests of docs/REFERENCE.md, Order of tests, never fail in a run: a part inserted last has its place (8), and the cells of the largest sheet are enough
 -- for any (10). So `sheet` never prints `refused 8` or `refused 10` for them.
+use Rattle.std.specs.Prelude.{Ok}
 use mathlib.Core.Path.{◌≡◌}
 use Prim.Native.Nat.{ℕ, ◌≤◌}
 use native.Mathlib.Omega.{arith}
 use lib.Dec.{leb, ltb}
 use borrow.Author.Tests.{le-ltb}
 use Rattle.aero_error.specs.declared.Rule.TheVariants.{DesignFull, TooFewCells}
-use Rattle.aero_error.specs.declared.Check.TheVariants.{Passed}
 use Rattle.aero_error.specs.Checks.{◌then◌, unless}
 use Rattle.sheet_data.specs.declared.Settings.{Settings}
 use Rattle.sheet_data.specs.declared.Part.{Part}
@@ -24,5 +24,5 @@ pub place_present : (sheet : Sheet) (part : Part) → arguments_test (insert_las
     ≡ (unless (leb most_parts sheet.design.count) DesignFull then part_test part)
 place_present sheet part = present (last_place sheet) sheet.settings sheet.design.count part (omega arith)
 
-pub cells_enough : (columns : ℕ) → columns ≤ most_columns → unless (ltb most_cells (needed columns)) TooFewCells ≡ Passed
+pub cells_enough : (columns : ℕ) → columns ≤ most_columns → unless (ltb most_cells (needed columns)) TooFewCells ≡ Ok tt
 cells_enough columns h = rw (le-ltb most_cells (needed columns) (needed_few columns h))

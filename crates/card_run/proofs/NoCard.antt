@@ -1,4 +1,5 @@
 -- What a stream of no bytes comes to: the sheet of its settings with no parts. Every other stream comes to what it came to when a settings card was asked of each.
+use Rattle.std.specs.Prelude.{Ok}
 use mathlib.Core.Path.{◌≡◌, refl, sym, ap, subst, ◌∙◌}
 use mathlib.Core.List.{List, [], ◌∷◌, ◌++◌}
 use Prim.Native.Nat.{ℕ, ◌≤◌, ◌<◌}
@@ -8,7 +9,6 @@ use Rattle.elementary.specs.Constants.{0·0}
 use lib.Ieee.{Float, le, of_bits}
 use borrow.Author.Tests.{le-ltb}
 use Rattle.elementary.specs.Tests.{between}
-use Rattle.aero_error.specs.declared.Check.TheVariants.{Passed}
 use Rattle.aero_error.specs.Checks.{dimension, up_to}
 use Rattle.sheet_data.specs.Layout.{needed}
 use Rattle.sheet_data.specs.Contents.{contents_of, blank}
@@ -16,10 +16,9 @@ use Rattle.sheet_data.specs.Tests.{columns_test, settings_test}
 use Rattle.drag_sheet.specs.Writing.{whole, overwritten}
 use Rattle.drag_sheet.specs.Lists.{Matches}
 use Rattle.drag_sheet.proofs.Overwritten.{keeps}
-use Rattle.cards.specs.declared.SettingsRead.{SettingsRead}
-use Rattle.cards.specs.Fields.{eight_bytes, pair_at, numbers_at}
-use Rattle.cards.specs.Cards.{columns_at, fineness_at, settings_fields, settings_at}
-use Rattle.card_run.specs.Run.{Ran, stopped_at, no_card, stream_from, stream_of}
+use Rattle.cards.specs.Fields.{eight_bytes, numbers_at}
+use Rattle.cards.specs.Cards.{columns_at, settings_fields, settings_at}
+use Rattle.card_run.specs.Run.{FirstCard, card_of, Ran, stopped_at, no_card, stream_from, stream_of}
 use Rattle.card_run.specs.Said.{parts_said, said}
 use Rattle.card_run.proofs.Stream.{cards_end, outcome}
 use Rattle.card_run.proofs.Answers.{first_of_some}
@@ -38,7 +37,7 @@ none_needed = omega arith
 
 module _ (xs : List Float) where
   -- these settings are accepted, however many cells there are, and nothing is written
-  accepted : (cells : ℕ) → settings_test no_card.settings cells ≡ Passed
+  accepted : (cells : ℕ) → settings_test no_card.settings cells ≡ Ok tt
   unfolding settings_test columns_test between dimension up_to le of_bits
   accepted cells = rw (le-ltb cells (needed 0) (omega arith))
 
@@ -47,12 +46,12 @@ module _ (xs : List Float) where
       let c = contents_of (blank no_card.settings) in
       subst (λ (n : ℕ). drop n (overwritten whole c xs) ≡ drop n xs) none_needed (keeps c xs (omega arith) whole tt).past
 
-  alone : (s : List ℕ) (card : SettingsRead) → card.outcome ≡ Passed → card.settings ≡ no_card.settings → length s ≤ card.next
-      → stream_from s card xs ≡ stopped_at 1 Passed (blank no_card.settings) xs
+  alone : (s : List ℕ) (card : FirstCard) → card.outcome ≡ Ok tt → card.settings ≡ no_card.settings → length s ≤ card.next
+      → stream_from s card xs ≡ stopped_at 1 (Ok tt) (blank no_card.settings) xs
   alone s card o e h = rw (o, e, accepted (length xs), unwritten) (cards_end s card.next (blank no_card.settings) xs h)
 
   -- a sheet of these settings with no parts, and the cells as they were
-  pub no_bytes : stream_of [] xs ≡ stopped_at 1 Passed (blank no_card.settings) xs
+  pub no_bytes : stream_of [] xs ≡ stopped_at 1 (Ok tt) (blank no_card.settings) xs
   unfolding stream_of
   no_bytes = alone [] no_card refl refl (omega arith)
 
@@ -64,10 +63,10 @@ module _ (xs : List Float) where
 
   -- a card that says D = 1 and B = 1 and nothing else, `05`, comes to the same
   pub as_card : stream_of [] xs ≡ stream_of card_05 xs
-  unfolding stream_of settings_at settings_fields fineness_at columns_at pair_at numbers_at eight_bytes
-  as_card = no_bytes ∙ sym (alone card_05 (settings_at card_05 0) refl refl (omega arith))
+  unfolding stream_of settings_at settings_fields columns_at numbers_at eight_bytes
+  as_card = no_bytes ∙ sym (alone card_05 (card_of (settings_at card_05 0)) refl refl (omega arith))
 
   -- every stream that has a byte: as if there were no other
-  pub other_streams : (s : List ℕ) → 0 < length s → stream_of s xs ≡ stream_from s (settings_at s 0) xs
+  pub other_streams : (s : List ℕ) → 0 < length s → stream_of s xs ≡ stream_from s (card_of (settings_at s 0)) xs
   unfolding stream_of
   other_streams s h = rw (first_of_some s h)

@@ -1,5 +1,7 @@
 -- No byte of a stream past its first `stream_bytes` matters: they hold the settings card and a part card more than a design has places, which can't be accepted.
 -- A card reads the same in those bytes as in the stream; the count of the design's parts bounds the cards.
+use Rattle.std.specs.Prelude.{Ok, Err}
+use Rattle.aero_error.specs.Checks.{Check}
 use mathlib.Core.Path.{◌≡◌, refl, sym, ap, ◌∙◌}
 use mathlib.Core.Bool.{Bool, true, false}
 use mathlib.Core.List.{List, [], ◌∷◌}
@@ -9,8 +11,6 @@ use lib.ListN.{length, take, drop, length-take, length-append}
 use lib.Dec.{ltb}
 use lib.Ieee.{Float}
 use borrow.Author.Tests.{ltb-true, ltb-false, lt-ltb, le-ltb}
-use Rattle.aero_error.specs.declared.Check.{Check}
-use Rattle.aero_error.specs.declared.Check.TheVariants.{Passed, Failed}
 use Rattle.sheet_data.specs.declared.Part.{Part}
 use Rattle.sheet_data.specs.declared.Sheet.{Sheet}
 use Rattle.sheet_data.specs.Layout.{most_parts}
@@ -18,11 +18,10 @@ use Rattle.sheet_data.specs.Contents.{contents_of, blank}
 use Rattle.sheet_data.specs.Tests.{settings_test}
 use Rattle.drag_sheet.specs.Writing.{whole, overwritten}
 use Rattle.drag_sheet.specs.Calls.{after}
-use Rattle.cards.specs.declared.SettingsRead.{SettingsRead}
 use Rattle.cards.specs.Cards.{settings_at, settings_bytes, part_bytes}
 use Rattle.cards.proofs.Extents.{part_extent, settings_extent}
-use Rattle.card_run.specs.Run.{Ran, insert_last, part_cards, on_check, stopped_at, first_card, stream_from, stream_of, stream_bytes}
-use Rattle.card_run.proofs.Stream.{sheet_then, cells_then, same_card, card_first, part_reach}
+use Rattle.card_run.specs.Run.{FirstCard, card_of, Ran, insert_last, part_cards, on_check, stopped_at, first_card, stream_from, stream_of, stream_bytes}
+use Rattle.card_run.proofs.Stream.{ends_of, sheet_then, cells_then, same_card, card_first, part_reach}
 use Rattle.card_run.proofs.Answers.{one_more, accepted_part}
 
 -- the array of a design holds its parts
@@ -38,13 +37,13 @@ one_more_held sheet part h =
     (omega (arith, a), omega (arith, b))
 
 -- the settings card ends within its bytes and is the same in the first bytes of the stream, and no bytes are no bytes there
-first_reach : (s : List ℕ) → (first_card s).outcome ≡ Passed → (first_card s).next ≤ settings_bytes
+first_reach : (s : List ℕ) → (first_card s).outcome ≡ Ok tt → (first_card s).next ≤ settings_bytes
 first_reach [] o = omega arith
-first_reach (b ∷ s) o = (settings_extent.reach (b ∷ s) 0 (settings_at (b ∷ s) 0).next (o, refl)).1
+first_reach (b ∷ s) o = (settings_extent.reach (b ∷ s) 0 (first_card (b ∷ s)).next (ends_of (settings_at (b ∷ s) 0) o)).1
 
 first_same : (s : List ℕ) → first_card s ≡ first_card (take stream_bytes s)
 first_same [] = refl
-first_same (b ∷ s) = settings_extent.same (b ∷ s) stream_bytes 0 (omega arith)
+first_same (b ∷ s) = ap card_of (settings_extent.same (b ∷ s) stream_bytes 0 (omega arith))
 
 module _ (s : List ℕ) where
   first_long : length (take stream_bytes s) ≡ min stream_bytes (length s)
@@ -79,25 +78,25 @@ module _ (s : List ℕ) where
       same_cards d (n - 1) (m - 1) next (sheet_then sheet part) (cells_then sheet part xs) o.1 (omega (arith, o.0)) (omega (arith, o.0)) (omega arith) (omega (arith, first_long))
 
   -- the same settings card, and the same part cards after it
-  same_from : (card : SettingsRead) (xs : List Float) → (card.outcome ≡ Passed → card.next ≤ settings_bytes) → stream_from s card xs ≡ stream_from (take stream_bytes s) card xs
+  same_from : (card : FirstCard) (xs : List Float) → (card.outcome ≡ Ok tt → card.next ≤ settings_bytes) → stream_from s card xs ≡ stream_from (take stream_bytes s) card xs
   same_from card xs h = by_cases card.outcome h
     where
       sheet : Sheet
       sheet = blank card.settings
 
       after : List ℕ → ℕ → Ran
-      after t n = on_check (settings_test card.settings (length xs)) (λ e. stopped_at 0 (Failed e) sheet xs) (part_cards n t card.next sheet (overwritten whole (contents_of sheet) xs))
+      after t n = on_check (settings_test card.settings (length xs)) (λ e. stopped_at 0 (Err e) sheet xs) (part_cards n t card.next sheet (overwritten whole (contents_of sheet) xs))
 
-      by_cases : (o : Check) → (o ≡ Passed → card.next ≤ settings_bytes)
-          → on_check o (λ e. stopped_at 0 (Failed e) sheet xs) (after s (length s)) ≡ on_check o (λ e. stopped_at 0 (Failed e) sheet xs) (after (take stream_bytes s) (length (take stream_bytes s)))
-      by_cases Passed h =
+      by_cases : (o : Check) → (o ≡ Ok tt → card.next ≤ settings_bytes)
+          → on_check o (λ e. stopped_at 0 (Err e) sheet xs) (after s (length s)) ≡ on_check o (λ e. stopped_at 0 (Err e) sheet xs) (after (take stream_bytes s) (length (take stream_bytes s)))
+      by_cases (Ok _) h =
           let k = h refl in
-          ap (λ (r : Ran). on_check (settings_test card.settings (length xs)) (λ e. stopped_at 0 (Failed e) sheet xs) r)
+          ap (λ (r : Ran). on_check (settings_test card.settings (length xs)) (λ e. stopped_at 0 (Err e) sheet xs) r)
           (same_cards most_parts (length s) (length (take stream_bytes s)) card.next sheet (overwritten whole (contents_of sheet) xs) (omega arith) (omega arith) (omega arith) (omega arith) (omega arith))
-      by_cases (Failed e) h = refl
+      by_cases (Err e) h = refl
 
   -- the answer for any stream is the answer for its first bytes
   pub first_bytes : (xs : List Float) → stream_of s xs ≡ stream_of (take stream_bytes s) xs
   unfolding stream_of
   first_bytes xs =
-      same_from (first_card s) xs (first_reach s) ∙ ap (λ (card : SettingsRead). stream_from (take stream_bytes s) card xs) (first_same s)
+      same_from (first_card s) xs (first_reach s) ∙ ap (λ (card : FirstCard). stream_from (take stream_bytes s) card xs) (first_same s)

@@ -1,11 +1,12 @@
 -- What a whole stream of bytes comes to (docs/REFERENCE.md, Program): "reads one settings card and then part cards .., each inserted last, and stops at the
 -- first refusal". Each card is read whole before its call. A stream of no bytes has settings of its own. What a call decides and leaves is `drag_sheet`'s own
 -- definition of it.
-use Rattle.std.specs.Prelude.{◌≡◌, cond, List, [], ◌∷◌, ℕ, zero, suc, ◌+◌, ◌*◌, ◌≤◌, length, replicate, ltb, Float}
+use Rattle.cards.specs.Fields.{Read}
+use Rattle.std.specs.Prelude.{◌≡◌, cond, List, [], ◌∷◌, ℕ, zero, suc, ◌+◌, ◌*◌, ◌≤◌, length, replicate, ltb, Float, Ok, Err}
+use Rattle.aero_error.specs.Checks.{Check}
 use Rattle.elementary.specs.Constants.{0·0, 1·0}
 use Rattle.aero_error.specs.declared.AeroError.{AeroError}
-use Rattle.aero_error.specs.declared.Check.{Check}
-use Rattle.aero_error.specs.declared.Check.TheVariants.{Passed, Failed}
+use Rattle.sheet_data.specs.declared.Settings.{Settings}
 use Rattle.sheet_data.specs.declared.Part.{Part}
 use Rattle.sheet_data.specs.declared.Sheet.{Sheet}
 use Rattle.sheet_data.specs.Layout.{most_parts, most_columns}
@@ -13,10 +14,7 @@ use Rattle.sheet_data.specs.Contents.{contents_of, blank, Fits}
 use Rattle.sheet_data.specs.Tests.{settings_test}
 use Rattle.drag_sheet.specs.Writing.{whole, overwritten}
 use Rattle.drag_sheet.specs.Calls.{Call, insert, scope, after, decision, sheet_with}
-use Rattle.cards.specs.declared.PartRead.{PartRead}
-use Rattle.cards.specs.declared.PartRead.TheVariants.{Read, Refused as NoPart}
-use Rattle.cards.specs.declared.SettingsRead.{SettingsRead}
-use Rattle.cards.specs.Cards.{part_at, settings_at, settings_bytes, part_bytes}
+use Rattle.cards.specs.Cards.{part_at, no_settings, settings_at, settings_bytes, part_bytes}
 use Rattle.card_run.specs.declared.Run.{Run}
 
 -- the answer, and the cells that are left
@@ -35,13 +33,13 @@ run_stopped outcome sheet = record { outcome = outcome; card = sheet.design.coun
 abbrev pub stopped : Check → Sheet → List Float → Ran
 stopped outcome sheet xs = stopped_at (sheet.design.count + 1) outcome sheet xs
 
-abbrev pub on_part : PartRead → (AeroError → Ran) → (Part → ℕ → Ran) → Ran
-on_part (Read part next) refuse go = go part next
-on_part (NoPart e) refuse go = refuse e
+abbrev pub on_part : Read Part → (AeroError → Ran) → (Part → ℕ → Ran) → Ran
+on_part (Ok (part, next)) refuse go = go part next
+on_part (Err e) refuse go = refuse e
 
 abbrev pub on_check : Check → (AeroError → Ran) → Ran → Ran
-on_check Passed refuse go = go
-on_check (Failed e) refuse go = refuse e
+on_check (Ok _) refuse go = go
+on_check (Err e) refuse go = refuse e
 
 -- "each inserted last"; the sheet and the cells after an accepted one
 abbrev pub last_place : Sheet → ℕ
@@ -60,46 +58,58 @@ cells_after call sheet xs = overwritten (scope call (after call sheet)) (after c
 abbrev pub part_card : List ℕ → ℕ → Sheet → List Float → (ℕ → Sheet → List Float → Ran) → Ran
 part_card s at sheet xs go =
     cond (ltb at (length s))
-    (on_part (part_at s at) (λ e. stopped (Failed e) sheet xs) λ part next.
-    on_check (decision (insert_last sheet part) sheet (length xs)) (λ e. stopped (Failed e) sheet xs)
+    (on_part (part_at s at) (λ e. stopped (Err e) sheet xs) λ part next.
+    on_check (decision (insert_last sheet part) sheet (length xs)) (λ e. stopped (Err e) sheet xs)
     (go next (sheet_after (insert_last sheet part) sheet) (cells_after (insert_last sheet part) sheet xs)))
-    (stopped Passed sheet xs)
+    (stopped (Ok tt) sheet xs)
 
 -- the part cards from a position on, at most n of them. Each takes a byte at least, so no stream of n bytes has more than n
 unfoldable pub part_cards : ℕ → List ℕ → ℕ → Sheet → List Float → Ran
-part_cards zero s at sheet xs = stopped Passed sheet xs
+part_cards zero s at sheet xs = stopped (Ok tt) sheet xs
 part_cards (suc n) s at sheet xs = part_card s at sheet xs (part_cards n s)
 
 -- all the part cards from a position on
 abbrev pub all_part_cards : List ℕ → ℕ → Sheet → List Float → Ran
 all_part_cards s at sheet xs = part_cards (length s) s at sheet xs
 
+-- the settings card as a run goes by it: whether it was read, what it says, and where it ends. Refused, it says nothing
+pub record FirstCard : Type 0 where
+  pub outcome : Check
+  pub settings : Settings
+  pub next : ℕ
+
+abbrev pub card_of : Read Settings → FirstCard
+card_of (Ok (settings, next)) = record { outcome = Ok tt; settings = settings; next = next }
+card_of (Err e) = record { outcome = Err e; settings = no_settings; next = 0 }
+
 -- what stands for the settings card where there are no bytes: D = 1, B = 1, roughness 0, no columns
-abbrev pub no_card : SettingsRead
-no_card = record {
-  outcome = Passed;
-  settings = record {
-    reference_diameter = 1·0;
-    roughness = 0·0;
-    body_fineness = 1·0;
-    count = 0;
-    machs = replicate most_columns 0·0;
-    reynolds = replicate most_columns 0·0;
-  };
-  next = 0;
+abbrev pub unsaid : Settings
+unsaid = record {
+  reference_diameter = 1·0;
+  roughness = 0·0;
+  body_fineness = 1·0;
+  count = 0;
+  machs = replicate most_columns 0·0;
+  reynolds = replicate most_columns 0·0;
 }
 
+abbrev pub no_card : FirstCard
+no_card = record { outcome = Ok tt; settings = unsaid; next = 0 }
+
 -- the settings card of a stream, asked for wherever there is a byte
-abbrev pub first_card : List ℕ → SettingsRead
-first_card [] = no_card
-first_card (b ∷ s) = settings_at (b ∷ s) 0
+abbrev pub first_read : List ℕ → Read Settings
+first_read [] = Ok (unsaid, 0)
+first_read (b ∷ s) = settings_at (b ∷ s) 0
+
+abbrev pub first_card : List ℕ → FirstCard
+first_card s = card_of (first_read s)
 
 -- the settings card, card 0, as it was read, and then the part cards
-abbrev pub stream_from : List ℕ → SettingsRead → List Float → Ran
+abbrev pub stream_from : List ℕ → FirstCard → List Float → Ran
 stream_from s card xs =
     let sheet = blank card.settings in
-    on_check card.outcome (λ e. stopped_at 0 (Failed e) sheet xs)
-    (on_check (settings_test card.settings (length xs)) (λ e. stopped_at 0 (Failed e) sheet xs)
+    on_check card.outcome (λ e. stopped_at 0 (Err e) sheet xs)
+    (on_check (settings_test card.settings (length xs)) (λ e. stopped_at 0 (Err e) sheet xs)
     (all_part_cards s card.next sheet (overwritten whole (contents_of sheet) xs)))
 
 unfoldable pub stream_of : List ℕ → List Float → Ran
@@ -115,4 +125,4 @@ pub record Stopped (ran : Ran) (r : Run) (ys : List Float) : Type 0 where
   pub answer : r ≡ ran.run
   pub left : ys ≡ ran.cells
   pub card : r.card ≤ most_parts + 1
-  pub fits : r.outcome ≡ Passed → Fits r.sheet (length ys)
+  pub fits : r.outcome ≡ Ok tt → Fits r.sheet (length ys)

@@ -1,12 +1,11 @@
 -- The text of a sheet (docs/REFERENCE.md, Program): "the Machs, the design's part rows, friction, base, total; a line is a name (for a part its place
 -- too), then per column a space and the bits"; or "only `refused N card K`".
-use Rattle.std.specs.Prelude.{◌≡◌, cond, List, [], ◌∷◌, ◌++◌, ℕ, zero, suc, ◌+◌, ◌*◌, ◌≤◌, length, take, drop, replicate, ltb, Float}
+use Rattle.std.specs.Prelude.{◌≡◌, cond, List, [], ◌∷◌, ◌++◌, ℕ, zero, suc, ◌+◌, ◌*◌, ◌≤◌, length, take, drop, replicate, ltb, Float, Ok, Err}
+use Rattle.aero_error.specs.Checks.{Check}
 use Rattle.std.specs.Float.Ieee.{to_bits}
 use Rattle.std.specs.Float.{binary64}
 use Rattle.elementary.specs.Constants.{0·0}
 use Rattle.aero_error.specs.Refusals.{number_of}
-use Rattle.aero_error.specs.declared.Check.{Check}
-use Rattle.aero_error.specs.declared.Check.TheVariants.{Passed, Failed}
 use Rattle.sheet_data.specs.declared.Settings.{Settings}
 use Rattle.sheet_data.specs.declared.Sheet.{Sheet}
 use Rattle.sheet_data.specs.Layout.{most_parts, most_columns, most_cells, finishes, friction_row, base_row, total_row}
@@ -85,8 +84,8 @@ unfolding decimal
 refused_text n k = refused_name ++ (decimal n ++ (card_name ++ (decimal k ++ (line_feed ∷ []))))
 
 abbrev pub outcome_text : Check → ℕ → Sheet → List Float → List ℕ
-outcome_text Passed card sheet xs = sheet_text sheet xs
-outcome_text (Failed e) card sheet xs = refused_text (number_of e) card
+outcome_text (Ok _) card sheet xs = sheet_text sheet xs
+outcome_text (Err e) card sheet xs = refused_text (number_of e) card
 
 -- the text of a run's answer, with the cells that it left
 abbrev pub run_text : Run → List Float → List ℕ

@@ -3,14 +3,12 @@
 #![tactic(auto)]
 
 ghost use Rattle.std.specs.Prelude.{◌≡◌, [], ◌∷◌, ◌++◌, ◌+◌, ◌*◌, ◌≤◌, ◌<◌, length, take};
-ghost use Rattle.aero_error.specs.declared.Check.TheVariants.{Passed};
 ghost use Rattle.sheet_data.specs.Layout.{most_parts, most_columns, finishes, all_rows, needed};
 ghost use Rattle.sheet_data.specs.Contents.{Fits};
 ghost use Rattle.sheet_data.specs.Rows.{row_at};
 ghost use Rattle.sheet_text.specs.Bytes.{digits, line_feed, hex_digit, hex_digits, decimal, Put};
 ghost use Rattle.sheet_text.specs.Text.{number_text_size, row_text, part_text, body_text_size, most_text, number_text, numbers_text, line_text, part_name, part_lines, body_text, sheet_text, refused_text, run_text, Printed, Answered};
 
-use aero_error::Check;
 use card_run::{Run, STREAM_BYTES};
 use sheet_data::Sheet;
 use sheet_data::layout::{CELLS, COLUMNS, PARTS, base_row, friction_row, total_row};
@@ -218,14 +216,12 @@ fn put_refusal(number: usize, card: usize, out: &mut [u8]) -> usize
 
 // The text of a run's answer.
 fn put_run(run: Run, cells: &[f64], out: &mut [u8]) -> usize
-    requires { (run.card ≤ most_parts + 1) × (run.outcome ≡ Passed → Fits run.sheet (length cells.now)) × (most_text ≤ length out.old) }
+    requires { (run.card ≤ most_parts + 1) × (run.outcome ≡ Ok tt → Fits run.sheet (length cells.now)) × (most_text ≤ length out.old) }
     ensures { Put 0 (run_text run cells.now) out.old result out.new × (result ≤ most_text) }
 {
-    let outcome = run.outcome;
-    let sheet = run.sheet;
-    match outcome {
-        Check::Passed => put_sheet(sheet, cells, out),
-        Check::Failed(e) => put_refusal(e.number() as usize, run.card, out),
+    match run.outcome {
+        Ok(()) => put_sheet(run.sheet, cells, out),
+        Err(e) => put_refusal(e.number() as usize, run.card, out),
     }
 }
 

@@ -1,50 +1,51 @@
--- `card_run::run_stream` meets its contract.
-use mathlib.Core.Path.{refl, sym, ap, ◌∙◌, subst}
-use mathlib.Core.List.{List}
-use Prim.Native.Nat.{ℕ}
-use native.Mathlib.Omega.{arith}
-use lib.ListN.{length}
-use lib.Ieee.{Float}
-use Rattle.aero_error.specs.declared.Check.TheVariants.{Failed}
+-- `run_stream` meets its contract: it stops at the settings card, at the open, or where the part cards do.
+use Rattle.std.specs.Prelude.{◌≡◌, List, ℕ, length, Float, Ok, Err}
+use Rattle.std.proofs.Common.{refl, sym, ap, subst, ◌∙◌, arith}
 use Rattle.sheet_data.specs.declared.Sheet.{Sheet}
 use Rattle.sheet_data.specs.Contents.{contents_of, blank, Fits}
 use Rattle.drag_sheet.specs.Writing.{whole, overwritten}
 use Rattle.drag_sheet.proofs.Verdicts.{never}
-use Rattle.card_run.specs.Run.{Ran, Stopped, stopped_at, all_part_cards}
+use Rattle.cards.specs.Cards.{no_settings}
+use Rattle.card_run.specs.Run.{card_of, first_card, run_stopped, Ran, Stopped, stopped_at, all_part_cards}
 use Rattle.card_run.proofs.Answers.{refused_open, accepted_open, stream_unread, stream_unopened, stream_opened, stopped_at_lem, fits_open}
 use Rattle.card_run.proofs.run_stream.Goals as goal
+use Rattle.card_run.proofs.run_stream.Goals.{In-Ok}
 
-pub returns-in-Failed : goal.returns-in-Failed
-returns-in-Failed c =
-    let a = c.args in
-    let e = c.in-Failed.e in
-    let card = c.first_card-card.result in
-    stopped_at_lem _ 0 (Failed e) (blank card.settings) a.cells.now _ (stream_unread a.s.now a.cells.now card c.first_card-card.ensures e c.in-Failed.is)
-    (ap (λ (z : Sheet). record { outcome = Failed e; card = 0; sheet = z }) c.blank.ensures) (omega arith) (never refl)
+pub returns-in-Err : goal.returns-in-Err
+returns-in-Err c =
+    let e = c.in-Err.e in
+    let read = sym c.first_card.ensures ∙ c.in-Err.is in
+    stopped_at_lem _ 0 (Err e) (blank no_settings) c.args.cells.now _ (stream_unread c.args.s.now c.args.cells.now (card_of (Err e)) (ap card_of (sym read)) e refl)
+    (ap (λ (z : Sheet). record { outcome = Err e; card = 0; sheet = z }) (c.blank-sheet.ensures ∙ ap blank c.no_settings.ensures)) (omega arith) (never refl)
 
-pub returns-in-Failed-outcome : goal.returns-in-Failed-outcome
-returns-in-Failed-outcome c =
-    let a = c.args in
-    let e = c.in-Failed-outcome.e in
-    let card = c.first_card-card.result in
-    let r = refused_open c.open-answer.ensures e c.in-Failed-outcome.is in
-    stopped_at_lem _ 0 (Failed e) (blank card.settings) c.open-answer.new.cells _
-    (stream_unopened a.s.now a.cells.now card c.first_card-card.ensures e c.in_default.is r.0 ∙ ap (stopped_at 0 (Failed e) (blank card.settings)) (sym r.2))
-    (ap (λ (z : Sheet). record { outcome = Failed e; card = 0; sheet = z }) r.1) (omega arith) (never refl)
+-- the settings card was read
+card_read : (c : In-Ok) → first_card c.args.s.now ≡ card_of (Ok c.in-Ok.card)
+card_read c = ap card_of (sym c.first_card.ensures ∙ c.in-Ok.is)
 
-pub run_parts-requires : goal.run_parts-requires
-run_parts-requires c =
-    let a = c.args in
-    let card = c.first_card-card.result in
-    let r = accepted_open c.open-answer.ensures c.in_default-outcome.is in
-    subst (λ (z : Sheet). Fits z (length c.open-answer.new.cells)) (sym r.1) (subst (λ (n : ℕ). Fits (blank card.settings) n) (sym c.open-answer.auto.cells) (fits_open card.settings (length a.cells.now) r.0))
+pub returns-in-Err-open : goal.returns-in-Err-open
+returns-in-Err-open c =
+    let e = c.in-Err-open.e in
+    let card = card_of (Ok c.in-Ok.card) in
+    let r = refused_open c.open.ensures e c.in-Err-open.is in
+    stopped_at_lem _ 0 (Err e) (blank card.settings) c.open.new.cells _
+    (stream_unopened c.args.s.now c.args.cells.now card (sym (card_read (goal.at.returns-in-Err-open c).In-Ok)) e refl r.0 ∙ ap (stopped_at 0 (Err e) (blank card.settings)) (sym r.2))
+    (ap (λ (z : Sheet). record { outcome = Err e; card = 0; sheet = z }) r.1) (omega arith) (never refl)
+
+pub run_parts-outcome-requires : goal.run_parts-outcome-requires
+run_parts-outcome-requires c =
+    let s = c.in-Ok.card.0 in
+    let r = accepted_open c.open.ensures c.in_default.is in
+    subst (λ (z : Sheet). Fits z (length c.open.new.cells)) (sym r.1) (subst (λ (n : ℕ). Fits (blank s) n) (sym c.open.auto.cells) (fits_open s (length c.args.cells.now) r.0))
 
 pub returns : goal.returns
 returns c =
     let a = c.args in
-    let card = c.first_card-card.result in
-    let t = c.run_parts in
-    let r = accepted_open c.open-answer.ensures c.in_default-outcome.is in
-    let ran = stream_opened a.s.now a.cells.now card c.first_card-card.ensures c.in_default.is r.0 in
-    let same = ran ∙ ap (λ (z : Sheet). all_part_cards a.s.now card.next z (overwritten whole (contents_of (blank card.settings)) a.cells.now)) (sym r.1) ∙ ap (λ (zs : List Float). all_part_cards a.s.now card.next c.open-answer.result.sheet zs) (sym r.2) in
-    subst (λ (z : Ran). Stopped z t.result t.new.cells) (sym same) t.ensures
+    let card = card_of (Ok c.in-Ok.card) in
+    let t = c.run_parts-outcome in
+    let r = accepted_open c.open.ensures c.in_default.is in
+    let ran = stream_opened a.s.now a.cells.now card (sym (card_read (goal.at.returns c).In-Ok)) refl r.0 in
+    let same =
+        ran
+        ∙ ap (λ (z : Sheet). all_part_cards a.s.now card.next z (overwritten whole (contents_of (blank card.settings)) a.cells.now)) (sym r.1)
+        ∙ ap (λ (zs : List Float). all_part_cards a.s.now card.next c.open.new.sheet zs) (sym r.2) in
+    subst (λ (z : Ran). Stopped z (run_stopped t.result t.new.sheet) t.new.cells) (sym same) t.ensures
