@@ -21,7 +21,7 @@ use cobalnis::{
     cobalnis_check_dimension, cobalnis_curve, cobalnis_formula, cobalnis_nose_lookup,
     cobalnis_nose_point, cobalnis_takes_cone_formula,
 };
-use replay::{Counts, Replay, is_line, replay_all, tag_of, word_at};
+use replay::{Counts, NO_KIND, Replay, is_line, replay_all, tag_of, word_at};
 
 // ---- arguments and answers
 
@@ -173,7 +173,7 @@ impl Function {
         ensures { result ≡ slot_of_function self number }
     {
         match self {
-            Function::Formula => { if number < 22 { number } else { 31 } }
+            Function::Formula => { if number < 22 { number } else { NO_KIND } }
             Function::Dimension => 22,
             Function::Cone => 23,
             Function::Point => 24,
@@ -206,7 +206,7 @@ fn kind_of(tag: u8, number: u64) -> u64
 {
     match Function::of_tag(tag) {
         Some(function) => function.slot(number),
-        None => 31,
+        None => NO_KIND,
     }
 }
 

@@ -140,15 +140,21 @@ impl Tally {
         }
     }
 
-    fn write(self) {
+    // Written by hand: `Display` writes through a handle, which the callers of `Counts::write` don't pass.
+    fn write(self, name: &[u8], mark: &[u8], end: &[u8]) {
+        io::write_all(STDOUT_FILENO, name);
+        io::write_all(STDOUT_FILENO, mark);
         io::print_decimal(STDOUT_FILENO, self.agreed);
         io::write_all(STDOUT_FILENO, b" of ");
         io::print_decimal(STDOUT_FILENO, self.asked);
+        io::write_all(STDOUT_FILENO, end);
     }
 }
 
-// The last kind is for lines that ask for nothing.
 pub const KINDS: usize = 32;
+
+// The last kind is for lines that ask for nothing.
+pub const NO_KIND: u64 = KINDS as u64 - 1;
 
 // The lines of each kind, and of the whole list.
 #[derive(Clone, Copy)]
@@ -161,7 +167,7 @@ fn slot_of(kind: u64) -> usize
     ensures value { result ≡ slot_of kind }
     ensures upper_bound { result < 32 }
 {
-    kind.min(31) as usize
+    kind.min(NO_KIND) as usize
 }
 
 impl Counts {
@@ -190,10 +196,7 @@ impl Counts {
         ensures { result ≡ tally_of self kind }
     {
         let tally = self.kinds[slot_of(kind)];
-        io::write_all(STDOUT_FILENO, name);
-        io::write_all(STDOUT_FILENO, b" ");
-        tally.write();
-        io::write_all(STDOUT_FILENO, b"\n");
+        tally.write(name, b" ", b"\n");
         tally
     }
 
@@ -201,10 +204,7 @@ impl Counts {
     pub fn write_all(self, name: &[u8]) -> Tally
         ensures { result ≡ tally_of_all self }
     {
-        io::write_all(STDOUT_FILENO, name);
-        io::write_all(STDOUT_FILENO, b": ");
-        self.all.write();
-        io::write_all(STDOUT_FILENO, b" agree\n");
+        self.all.write(name, b": ", b" agree\n");
         self.all
     }
 }
