@@ -1,5 +1,5 @@
 -- The words of a stored line. A line is its list of bytes.
-use Rattle.std.specs.Prelude.{ℕ, ◌+◌, ◌-◌, ◌*◌, Bool, cond, ◌&&◌, List, [], ◌∷◌, ltb, leb, eqb, length, take, drop, get_or, Option, Some, None, is_some}
+use Rattle.std.specs.Prelude.{ℕ, ◌+◌, ◌-◌, ◌*◌, Bool, cond, ◌&&◌, List, [], ◌∷◌, ltb, leb, eqb, length, take, drop, get_or, Option, Some, None, is_some, unwrap_or}
 
 -- 0 to 9 are the bytes 48 to 57 and 10 to 15 the bytes 97 to 102; any other byte is no digit
 unfoldable pub digit_of : ℕ → Option ℕ
@@ -21,12 +21,8 @@ field_at line which =
     cond (ltb (length line) (space + 1 + 16)) None
     (cond (eqb (get_or line space 0) 32) (digits_of (take 16 (drop (space + 1) line)) 0) None)
 
-abbrev pub number_of : Option ℕ → ℕ
-number_of (Some n) = n
-number_of None = 0
-
 abbrev pub word_at : List ℕ → ℕ → ℕ
-word_at line which = number_of (field_at line which)
+word_at line which = unwrap_or (field_at line which) 0
 
 abbrev is_word : List ℕ → ℕ → Bool
 is_word line which = is_some (field_at line which)

@@ -28,12 +28,12 @@ const LINE_BYTES: usize = LINE_FEED_AT + 1;
 
 // 0 to 15 for 0 to 9 and a to f; nothing for any other byte.
 #[tactic(auto, unfolding(crate::specs::Words::digit_of))]
-fn digit(byte: u8) -> Option<u64>
+fn digit(byte: u8) -> Option<u8>
     ensures { result ≡ digit_of byte }
 {
     match byte {
-        b'0'..=b'9' => Some((byte - b'0') as u64),
-        b'a'..=b'f' => Some((byte - b'a') as u64 + 10),
+        b'0'..=b'9' => Some(byte - b'0'),
+        b'a'..=b'f' => Some(byte - b'a' + 10),
         _ => None,
     }
 }
@@ -45,7 +45,7 @@ fn digits(text: &[u8]) -> Option<u64>
 {
     let mut number: u64 = 0;
     for byte in text {
-        number = number * 16 + digit(*byte)?;
+        number = number * 16 + digit(*byte)? as u64;
     }
     Some(number)
 }

@@ -29,6 +29,9 @@ use elementary::{from_bits, to_bits};
 use replay::{Counts, NO_KIND, Replay, is_line, replay_all, tag_of, word_at};
 use sheet_data::layout::{CELLS, COLUMNS};
 
+// How many columns, after three floats and before the Machs.
+const COLUMNS_AT: usize = MACHS_AT - 1;
+
 // ---- the state's number
 
 // One word more: xor, a turn by 23 bits, and a product with 2^40 + 435 that drops what is above 64 bits.
@@ -39,6 +42,10 @@ fn mixed(h: u64, x: u64) -> u64 {
 // A float's word, every NaN being one.
 fn with_float(h: u64, word: u64) -> u64 {
     mixed(h, to_bits(from_bits(word)))
+}
+
+fn with_floats(h: u64, words: &[u64]) -> u64 {
+    words.iter().fold(h, |h, word| with_float(h, *word))
 }
 
 // The Machs and the Reynolds numbers of the columns, as far as the sheet has so many.
@@ -53,9 +60,7 @@ fn with_columns(h: u64, words: &[u64; SHEET_WORDS]) -> u64 {
 
 // The words of a part: a shape's number, five floats, a flag and a float.
 fn with_part(h: u64, part: &[u64; PART_WORDS]) -> u64 {
-    let h = with_float(mixed(h, part[0]), part[1]);
-    let h = with_float(with_float(h, part[2]), part[3]);
-    let h = with_float(with_float(h, part[4]), part[5]);
+    let h = with_floats(mixed(h, part[0]), &part[1..6]);
     with_float(mixed(h, part[6]), part[7])
 }
 
@@ -70,8 +75,7 @@ fn with_parts(h: u64, words: &[u64; SHEET_WORDS]) -> u64 {
 
 // The number of a sheet's words, as far as its counts reach, and of all cells.
 fn number_of(words: &[u64; SHEET_WORDS], cells: &[f64]) -> u64 {
-    let h = with_float(0xcbf2_9ce4_8422_2325, words[0]);
-    let h = with_float(with_float(h, words[1]), words[2]);
+    let h = with_floats(0xcbf2_9ce4_8422_2325, &words[..COLUMNS_AT]);
     let h = with_columns(mixed(h, words[COLUMNS_AT]), words);
     let h = with_float(h, words[NOZZLE_AT]);
     let h = with_parts(mixed(h, words[PARTS_AT]), words);
@@ -158,8 +162,6 @@ fn part_at(line: &[u8], roughness: Roughness) -> [u64; PART_WORDS] {
 }
 
 // ---- the state
-
-const COLUMNS_AT: usize = MACHS_AT - 1;
 
 // Room for one row of cells too many.
 const ROOM: usize = CELLS + COLUMNS;
