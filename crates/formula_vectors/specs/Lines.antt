@@ -1,5 +1,5 @@
 -- When a stored line agrees: it can be read, and its status and words are those that the definitions give at its arguments.
-use Rattle.std.specs.Prelude.{ℕ, Bool, true, false, cond, ◌&&◌, List, [], ◌∷◌, eqb, ltb, get_or, Float}
+use Rattle.std.specs.Prelude.{ℕ, Bool, true, false, cond, ◌&&◌, List, [], ◌∷◌, eqb, ltb, get_or, Float, Option, Some, None}
 use Rattle.std.specs.Float.Ieee.{to_bits}
 use Rattle.std.specs.Float.{binary64}
 use Rattle.elementary.specs.Arithmetic.{bits}
@@ -18,6 +18,8 @@ use Rattle.cobalnis.specs.Answers.{status_of, no_such, formula_of, formula_statu
 use Rattle.replay.specs.declared.Counts.{Counts}
 use Rattle.replay.specs.Counts.{counted}
 use Rattle.replay.specs.Words.{word_at, is_line}
+use Rattle.formula_vectors.specs.declared.Function.{Function}
+use Rattle.formula_vectors.specs.declared.Function.TheVariants.{Formula, Dimension, Cone, Point, Lookup, CurveAtMach}
 
 -- ---- arguments and answers
 
@@ -84,28 +86,44 @@ curve_at line = curve_words (word_at line 0) (float_at line 1) (float_at line 2)
 
 -- ---- lines
 
--- the tags are the letters f, d, k, p, l, c
-unfoldable pub asked : ℕ → List ℕ → Bool
-asked tag line =
-    cond (eqb tag 102) (is_answer line (formula_at line))
-    (cond (eqb tag 100) (is_answer line (dimension_at line))
-    (cond (eqb tag 107) (is_answer line (cone_at line))
-    (cond (eqb tag 112) (is_answer line (point_at line))
-    (cond (eqb tag 108) (is_answer line (lookup_at line))
-    (cond (eqb tag 99) (is_answer line (curve_at line)) false)))))
+-- the function of a tag; the tags are the letters f, d, k, p, l, c
+unfoldable pub function_of : ℕ → Option Function
+function_of tag =
+    cond (eqb tag 102) (Some Formula)
+    (cond (eqb tag 100) (Some Dimension)
+    (cond (eqb tag 107) (Some Cone)
+    (cond (eqb tag 112) (Some Point)
+    (cond (eqb tag 108) (Some Lookup)
+    (cond (eqb tag 99) (Some CurveAtMach) None)))))
+
+-- the status and the words that it writes, at a line's arguments
+abbrev pub answer_of : Function → List ℕ → List ℕ
+answer_of Formula line = formula_at line
+answer_of Dimension line = dimension_at line
+answer_of Cone line = cone_at line
+answer_of Point line = point_at line
+answer_of Lookup line = lookup_at line
+answer_of CurveAtMach line = curve_at line
+
+-- where a function's lines are counted: a formula at its number, the other functions after the 22 formulas
+abbrev pub slot_of_function : Function → ℕ → ℕ
+slot_of_function Formula number = cond (ltb number 22) number 31
+slot_of_function Dimension number = 22
+slot_of_function Cone number = 23
+slot_of_function Point number = 24
+slot_of_function Lookup number = 25
+slot_of_function CurveAtMach number = 26
+
+-- a line of another tag asks for nothing and does not agree
+abbrev pub asked : ℕ → List ℕ → Bool
+asked tag line = elim (function_of tag) [ Some function ↦ is_answer line (answer_of function line) | None ↦ false ]
 
 abbrev pub line_agrees : List ℕ → Bool
 line_agrees line = is_line line && asked (get_or line 0 0) line
 
--- where a line is counted: a formula at its number, the other functions after them
-unfoldable pub kind_of : ℕ → ℕ → ℕ
-kind_of tag number =
-    cond (eqb tag 102) (cond (ltb number 22) number 31)
-    (cond (eqb tag 100) 22
-    (cond (eqb tag 107) 23
-    (cond (eqb tag 112) 24
-    (cond (eqb tag 108) 25
-    (cond (eqb tag 99) 26 31)))))
+-- where a line is counted
+abbrev pub kind_of : ℕ → ℕ → ℕ
+kind_of tag number = elim (function_of tag) [ Some function ↦ slot_of_function function number | None ↦ 31 ]
 
 abbrev pub after_line : Counts → List ℕ → Counts
 after_line counts line = counted counts (kind_of (get_or line 0 0) (word_at line 0)) (line_agrees line)

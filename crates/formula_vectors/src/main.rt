@@ -15,13 +15,13 @@
 #![tactic(auto)]
 
 ghost use Rattle.std.specs.Prelude.{◌≡◌};
-ghost use Rattle.formula_vectors.specs.Lines.{named, float_at, is_answer, formula_at, dimension_at, cone_at, point_at, lookup_at, curve_at, asked, line_agrees, kind_of, after_line};
+ghost use Rattle.formula_vectors.specs.Lines.{named, float_at, is_answer, formula_at, dimension_at, cone_at, point_at, lookup_at, curve_at, function_of, answer_of, slot_of_function, asked, line_agrees, kind_of, after_line};
 
 use cobalnis::{
     cobalnis_check_dimension, cobalnis_curve, cobalnis_formula, cobalnis_nose_lookup,
     cobalnis_nose_point, cobalnis_takes_cone_formula,
 };
-use replay::{Counts, STDIN_FILENO, is_line, tag_of, word_at};
+use replay::{Counts, NO_KIND, Replay, is_line, replay_all, tag_of, word_at};
 
 // ---- arguments and answers
 
@@ -29,7 +29,7 @@ use replay::{Counts, STDIN_FILENO, is_line, tag_of, word_at};
 fn named(word: u64) -> u32
     ensures { result ≡ named word }
 {
-    if word < 65535 { word as u32 } else { 65535 }
+    word.min(65535) as u32
 }
 
 fn float_at(line: &[u8], which: u8) -> f64
@@ -42,15 +42,18 @@ fn float_at(line: &[u8], which: u8) -> f64
 fn is_answer(line: &[u8], answer: [u64; 5]) -> bool
     ensures { result ≡ is_answer line.now answer }
 {
-    (word_at(line, 6) == answer[0])
-        & (word_at(line, 7) == answer[1])
-        & (word_at(line, 8) == answer[2])
-        & (word_at(line, 9) == answer[3])
-        & (word_at(line, 10) == answer[4])
+    [
+        word_at(line, 6),
+        word_at(line, 7),
+        word_at(line, 8),
+        word_at(line, 9),
+        word_at(line, 10),
+    ] == answer
 }
 
 // ---- the functions
 
+#[tactic(auto, unfolding(crate::specs::Lines::formula_at))]
 fn formula(line: &[u8]) -> [u64; 5]
     ensures { result ≡ formula_at line.now }
 {
@@ -64,6 +67,7 @@ fn formula(line: &[u8]) -> [u64; 5]
     [status as u64, bits, 0, 0, 0]
 }
 
+#[tactic(auto, unfolding(crate::specs::Lines::dimension_at))]
 fn dimension(line: &[u8]) -> [u64; 5]
     ensures { result ≡ dimension_at line.now }
 {
@@ -75,6 +79,7 @@ fn dimension(line: &[u8]) -> [u64; 5]
     [status as u64, bits, 0, 0, 0]
 }
 
+#[tactic(auto, unfolding(crate::specs::Lines::cone_at))]
 fn cone(line: &[u8]) -> [u64; 5]
     ensures { result ≡ cone_at line.now }
 {
@@ -82,6 +87,7 @@ fn cone(line: &[u8]) -> [u64; 5]
     [status as u64, 0, 0, 0, 0]
 }
 
+#[tactic(auto, unfolding(crate::specs::Lines::point_at))]
 fn point(line: &[u8]) -> [u64; 5]
     ensures { result ≡ point_at line.now }
 {
@@ -92,6 +98,7 @@ fn point(line: &[u8]) -> [u64; 5]
     [status as u64, out[0], out[1], 0, 0]
 }
 
+#[tactic(auto, unfolding(crate::specs::Lines::lookup_at))]
 fn lookup(line: &[u8]) -> [u64; 5]
     ensures { result ≡ lookup_at line.now }
 {
@@ -120,18 +127,69 @@ fn curve(line: &[u8]) -> [u64; 5]
 
 // ---- lines
 
+// The function that a line asks for.
+#[derive(Clone, Copy)]
+enum Function {
+    Formula,
+    Dimension,
+    Cone,
+    Point,
+    Lookup,
+    CurveAtMach,
+}
+
+impl Function {
+    #[tactic(auto, unfolding(crate::specs::Lines::function_of))]
+    fn of_tag(tag: u8) -> Option<Function>
+        ensures { result ≡ function_of tag }
+    {
+        match tag {
+            b'f' => Some(Function::Formula),
+            b'd' => Some(Function::Dimension),
+            b'k' => Some(Function::Cone),
+            b'p' => Some(Function::Point),
+            b'l' => Some(Function::Lookup),
+            b'c' => Some(Function::CurveAtMach),
+            _ => None,
+        }
+    }
+
+    // Its status and words at the line's arguments.
+    fn answer(self, line: &[u8]) -> [u64; 5]
+        ensures { result ≡ answer_of self line.now }
+    {
+        match self {
+            Function::Formula => formula(line),
+            Function::Dimension => dimension(line),
+            Function::Cone => cone(line),
+            Function::Point => point(line),
+            Function::Lookup => lookup(line),
+            Function::CurveAtMach => curve(line),
+        }
+    }
+
+    // Where it is counted: a formula at its number, the other functions after the 22 formulas.
+    fn slot(self, number: u64) -> u64
+        ensures { result ≡ slot_of_function self number }
+    {
+        match self {
+            Function::Formula => { if number < 22 { number } else { NO_KIND } }
+            Function::Dimension => 22,
+            Function::Cone => 23,
+            Function::Point => 24,
+            Function::Lookup => 25,
+            Function::CurveAtMach => 26,
+        }
+    }
+}
+
 // Whether the line's answer is that of the function of this tag, word by word.
 fn asked(tag: u8, line: &[u8]) -> bool
     ensures { result ≡ asked tag line.now }
 {
-    match tag {
-        b'f' => is_answer(line, formula(line)),
-        b'd' => is_answer(line, dimension(line)),
-        b'k' => is_answer(line, cone(line)),
-        b'p' => is_answer(line, point(line)),
-        b'l' => is_answer(line, lookup(line)),
-        b'c' => is_answer(line, curve(line)),
-        _ => false,
+    match Function::of_tag(tag) {
+        Some(function) => is_answer(line, function.answer(line)),
+        None => false,
     }
 }
 
@@ -142,18 +200,13 @@ fn agrees(line: &[u8]) -> bool
     is_line(line) & asked(tag_of(line), line)
 }
 
-// Where a line is counted: a formula at its number, the other functions after the 22 formulas.
+// Where a line is counted; one that asks for no function in the last slot.
 fn kind_of(tag: u8, number: u64) -> u64
     ensures { result ≡ kind_of tag number }
 {
-    match tag {
-        b'f' => { if number < 22 { number } else { 31 } }
-        b'd' => 22,
-        b'k' => 23,
-        b'p' => 24,
-        b'l' => 25,
-        b'c' => 26,
-        _ => 31,
+    match Function::of_tag(tag) {
+        Some(function) => function.slot(number),
+        None => NO_KIND,
     }
 }
 
@@ -165,98 +218,58 @@ fn after(counts: Counts, line: &[u8]) -> Counts
     counts.counted(kind, agrees(line))
 }
 
-// What is counted so far, and whether there may be more lines.
-#[derive(Clone, Copy)]
-struct Turn {
+#[derive(Drop)]
+struct Formulas {
     counts: Counts,
-    more: bool,
 }
 
-// Reads one line and counts it. A last line that is cut off is a line too.
-fn replay_line(counts: Counts) -> Turn {
-    let mut line = [0u8; 189];
-    let n = io::read_full(STDIN_FILENO, &mut line);
-    if n == 0 {
-        return Turn {
-            counts,
-            more: false,
-        };
-    }
-    Turn {
-        counts: after(counts, &line[..n]),
-        more: true,
-    }
-}
+impl Replay for Formulas {
+    ghost takes = { λ before line now. now.counts ≡ after_line before.counts line };
 
-// To the end of the input. The turns are counted down so that the loop is seen to end; no run uses them up.
-fn replay_all() -> Counts {
-    let mut turns = u64::MAX;
-    let mut turn = Turn {
-        counts: Counts::none(),
-        more: true,
-    };
-    while turns > 0 && turn.more {
-        let counts = turn.counts;
-        turn = replay_line(counts);
-        turns -= 1;
+    fn line(&mut self, line: &[u8]) {
+        self.counts = after(self.counts, line);
     }
-    turn.counts
 }
 
 // ---- what is printed: the formulas by their numbers, then the other functions
 
-fn write_steps(counts: Counts) {
-    counts.write(b"0 sqrt", 0);
-    counts.write(b"1 ln", 1);
-    counts.write(b"2 exp", 2);
-    counts.write(b"3 powf", 3);
-    counts.write(b"4 sin", 4);
-}
-
-fn write_friction(counts: Counts) {
-    counts.write(b"5 check_mach_any", 5);
-    counts.write(b"6 critical_reynolds", 6);
-    counts.write(b"7 incompressible_skin_friction", 7);
-    counts.write(b"8 skin_friction_coefficient", 8);
-    counts.write(b"9 body_friction_form_factor", 9);
-}
-
-fn write_pressure(counts: Counts) {
-    counts.write(b"10 stagnation_pressure_ratio", 10);
-    counts.write(b"11 stagnation_drag_coefficient", 11);
-    counts.write(b"12 base_drag_coefficient", 12);
-    counts.write(b"13 joint_pressure_drag_coefficient", 13);
-    counts.write(b"14 boattail_factor", 14);
-}
-
-fn write_noses(counts: Counts) {
-    counts.write(b"15 subsonic_pressure_drag_coefficient", 15);
-    counts.write(b"16 ogive_pressure_drag_factor", 16);
-    counts.write(b"17 fineness_scaled_pressure_drag", 17);
-    counts.write(b"18 ellipsoid_subsonic_pressure_drag", 18);
-}
-
-fn write_last(counts: Counts) {
-    counts.write(b"19 stagnation_ratio", 19);
-    counts.write(b"20 VON_KARMAN", 20);
-    counts.write(b"21 LV_HAACK", 21);
-}
-
-fn write_others(counts: Counts) {
-    counts.write(b"check_dimension", 22);
-    counts.write(b"takes_cone_formula", 23);
-    counts.write(b"nose_point", 24);
-    counts.write(b"nose_lookup", 25);
-    counts.write(b"curve", 26);
-}
+const NAMES: [&[u8]; 27] = [
+    b"0 sqrt",
+    b"1 ln",
+    b"2 exp",
+    b"3 powf",
+    b"4 sin",
+    b"5 check_mach_any",
+    b"6 critical_reynolds",
+    b"7 incompressible_skin_friction",
+    b"8 skin_friction_coefficient",
+    b"9 body_friction_form_factor",
+    b"10 stagnation_pressure_ratio",
+    b"11 stagnation_drag_coefficient",
+    b"12 base_drag_coefficient",
+    b"13 joint_pressure_drag_coefficient",
+    b"14 boattail_factor",
+    b"15 subsonic_pressure_drag_coefficient",
+    b"16 ogive_pressure_drag_factor",
+    b"17 fineness_scaled_pressure_drag",
+    b"18 ellipsoid_subsonic_pressure_drag",
+    b"19 stagnation_ratio",
+    b"20 VON_KARMAN",
+    b"21 LV_HAACK",
+    b"check_dimension",
+    b"takes_cone_formula",
+    b"nose_point",
+    b"nose_lookup",
+    b"curve",
+];
 
 fn main() {
-    let counts = replay_all();
-    counts.write_all(b"formulas");
-    write_steps(counts);
-    write_friction(counts);
-    write_pressure(counts);
-    write_noses(counts);
-    write_last(counts);
-    write_others(counts);
+    let mut list = Formulas {
+        counts: Counts::none(),
+    };
+    replay_all(&mut list);
+    list.counts.write_all(b"formulas");
+    for (kind, name) in NAMES.iter().enumerate() {
+        list.counts.write(name, kind as u64);
+    }
 }

@@ -1,41 +1,31 @@
 -- The words of a stored line. A line is its list of bytes.
-use Rattle.std.specs.Prelude.{ℕ, ◌+◌, ◌-◌, ◌*◌, Bool, true, false, cond, ◌&&◌, List, [], ◌∷◌, ltb, leb, eqb, length, take, drop, get_or}
-use Rattle.replay.specs.declared.Field.{Field}
-use Rattle.replay.specs.declared.Field.TheVariants.{Number, Unread}
+use Rattle.std.specs.Prelude.{ℕ, ◌+◌, ◌-◌, ◌*◌, Bool, cond, ◌&&◌, List, [], ◌∷◌, ltb, leb, eqb, length, take, drop, get_or, Option, Some, None, is_some, unwrap_or}
 
--- 0 to 9 are the bytes 48 to 57 and 10 to 15 the bytes 97 to 102; any other byte is 16
-unfoldable pub digit_of : ℕ → ℕ
+-- 0 to 9 are the bytes 48 to 57 and 10 to 15 the bytes 97 to 102; any other byte is no digit
+unfoldable pub digit_of : ℕ → Option ℕ
 digit_of byte =
-    cond (ltb byte 48) 16
-    (cond (leb byte 57) (byte - 48)
-    (cond (ltb byte 97) 16
-    (cond (leb byte 102) (byte - 97 + 10) 16)))
+    cond (ltb byte 48) None
+    (cond (leb byte 57) (Some (byte - 48))
+    (cond (ltb byte 97) None
+    (cond (leb byte 102) (Some (byte - 97 + 10)) None)))
 
 -- from the left, after the digits that spell `number`: each further digit makes it 16 times as large and adds itself
-abbrev pub digits_of : List ℕ → ℕ → Field
-digits_of [] number = Number number
-digits_of (byte ∷ text) number = cond (leb 16 (digit_of byte)) Unread (digits_of text (number * 16 + digit_of byte))
+abbrev pub digits_of : List ℕ → ℕ → Option ℕ
+digits_of [] number = Some number
+digits_of (byte ∷ text) number = elim (digit_of byte) [ Some digit ↦ digits_of text (number * 16 + digit) | None ↦ None ]
 
 -- the word of a number, from 0: after the tag each has a space and 16 digits
-unfoldable pub field_at : List ℕ → ℕ → Field
+unfoldable pub field_at : List ℕ → ℕ → Option ℕ
 field_at line which =
     let space = 17 * which + 1 in
-    cond (ltb (length line) (space + 1 + 16)) Unread
-    (cond (eqb (get_or line space 0) 32) (digits_of (take 16 (drop (space + 1) line)) 0) Unread)
-
-abbrev pub is_number : Field → Bool
-is_number (Number n) = true
-is_number Unread = false
-
-abbrev pub number_of : Field → ℕ
-number_of (Number n) = n
-number_of Unread = 0
+    cond (ltb (length line) (space + 1 + 16)) None
+    (cond (eqb (get_or line space 0) 32) (digits_of (take 16 (drop (space + 1) line)) 0) None)
 
 abbrev pub word_at : List ℕ → ℕ → ℕ
-word_at line which = number_of (field_at line which)
+word_at line which = unwrap_or (field_at line which) 0
 
 abbrev is_word : List ℕ → ℕ → Bool
-is_word line which = is_number (field_at line which)
+is_word line which = is_some (field_at line which)
 
 -- a tag, eleven words and a line feed, and nothing after it
 unfoldable pub is_line : List ℕ → Bool

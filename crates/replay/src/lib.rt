@@ -2,97 +2,75 @@
 // words of 16 hexadecimal digits with a space in front of each, and a line feed: 189 bytes.
 #![tactic(auto)]
 
-ghost use Rattle.std.specs.Prelude.{◌≡◌, ◌≤◌, ◌<◌, length, get_or};
-ghost use Rattle.replay.specs.Words.{digit_of, digits_of, field_at, is_number, word_at, is_line};
-ghost use Rattle.replay.specs.Counts.{no_counts, counted_on, slot_of, counted, tally_of, tally_of_all};
+ghost use Rattle.std.specs.Prelude.{ℕ, List, ◌≡◌, ◌≤◌, ◌<◌, length, get_or};
+ghost use Rattle.replay.specs.Lines.{Replayed};
+ghost use Rattle.replay.specs.Words.{digit_of, digits_of, field_at, word_at, is_line};
+ghost use Rattle.replay.specs.Counts.{no_tally, tallied, no_counts, slot_of, counted, tally_of, tally_of_all};
 
 // The descriptors of standard input and output.
 pub const STDIN_FILENO: i32 = 0;
 
 pub const STDOUT_FILENO: i32 = 1;
 
-// What the bytes of a word spell.
-#[derive(Clone, Copy)]
-enum Field {
-    Number(u64),
-    Unread,
-}
+// ---- the words of a line
 
-// 0 to 15 for 0 to 9 and a to f; 16 for any other byte.
-fn digit(byte: u8) -> u64
+const DIGITS: usize = 16;
+
+// A space and the digits.
+const WORD_BYTES: usize = DIGITS + 1;
+
+const WORDS: u8 = 11;
+
+// Where the line feed stands, after the tag and the words.
+const LINE_FEED_AT: usize = 1 + WORD_BYTES * (WORDS as usize);
+
+const LINE_BYTES: usize = LINE_FEED_AT + 1;
+
+// 0 to 15 for 0 to 9 and a to f; nothing for any other byte.
+#[tactic(auto, unfolding(crate::specs::Words::digit_of))]
+fn digit(byte: u8) -> Option<u8>
     ensures { result ≡ digit_of byte }
 {
-    if byte < b'0' {
-        16
-    } else if byte <= b'9' {
-        (byte - b'0') as u64
-    } else if byte < b'a' {
-        16
-    } else if byte <= b'f' {
-        (byte - b'a') as u64 + 10
-    } else {
-        16
+    match byte {
+        b'0'..=b'9' => Some(byte - b'0'),
+        b'a'..=b'f' => Some(byte - b'a' + 10),
+        _ => None,
     }
 }
 
 // The number that all of these digits spell.
-fn digits(text: &[u8]) -> Field
+fn digits(text: &[u8]) -> Option<u64>
     requires { length text.now ≤ 16 }
     ensures { result ≡ digits_of text.now 0 }
 {
     let mut number: u64 = 0;
-    let mut i = 0;
-    while i < text.len() {
-        let d = digit(text[i]);
-        if 16 <= d {
-            return Field::Unread;
-        }
-        number = number * 16 + d;
-        i += 1;
+    for byte in text {
+        number = number * 16 + digit(*byte)? as u64;
     }
-    Field::Number(number)
+    Some(number)
 }
 
 // The word of this number, from 0: a space and 16 digits.
-fn field_at(line: &[u8], which: u8) -> Field
+#[tactic(auto, unfolding(crate::specs::Words::field_at))]
+fn field_at(line: &[u8], which: u8) -> Option<u64>
     ensures { result ≡ field_at line.now which }
 {
-    let space = 17 * (which as usize) + 1;
-    let first = space + 1;
-    let past = first + 16;
-    if line.len() < past {
-        return Field::Unread;
-    }
-    if line[space] != b' ' {
-        return Field::Unread;
-    }
-    digits(&line[first..past])
-}
-
-fn is_word(line: &[u8], which: u8) -> bool
-    ensures { result ≡ is_number (field_at line.now which) }
-{
-    match field_at(line, which) {
-        Field::Number(_) => true,
-        Field::Unread => false,
-    }
+    let at = 1 + WORD_BYTES * (which as usize);
+    digits(line.get(at..at + WORD_BYTES)?.strip_prefix(b" ")?)
 }
 
 // The word of this number, 0 where it can't be read.
 pub fn word_at(line: &[u8], which: u8) -> u64
     ensures { result ≡ word_at line.now which }
 {
-    match field_at(line, which) {
-        Field::Number(word) => word,
-        Field::Unread => 0,
-    }
+    field_at(line, which).unwrap_or(0)
 }
 
 // 0 past the end.
 fn byte_at(line: &[u8], at: usize) -> u8
     ensures { result ≡ get_or line.now at 0 }
 {
-    if at < line.len() { line[at] } else { 0 }
+    line.get(at).copied().unwrap_or(0)
 }
 
 // The first byte of a line, 0 of an empty one.
@@ -106,50 +84,90 @@ pub fn tag_of(line: &[u8]) -> u8
 pub fn is_line(line: &[u8]) -> bool
     ensures { result ≡ is_line line.now }
 {
-    (line.len() == 189)
-        & is_word(line, 0)
-        & is_word(line, 1)
-        & is_word(line, 2)
-        & is_word(line, 3)
-        & is_word(line, 4)
-        & is_word(line, 5)
-        & is_word(line, 6)
-        & is_word(line, 7)
-        & is_word(line, 8)
-        & is_word(line, 9)
-        & is_word(line, 10)
-        & (byte_at(line, 188) == b'\n')
+    (line.len() == LINE_BYTES)
+        & (0..WORDS).all(|which| field_at(line, which).is_some())
+        & (byte_at(line, LINE_FEED_AT) == b'\n')
 }
 
-// How many lines of each kind were asked, and of all, and how many of them agree. The last of the 32 kinds is for lines that ask
-// for nothing.
-#[derive(Clone, Copy)]
-pub struct Counts {
-    pub asked: [u64; 32],
-    pub agreed: [u64; 32],
-    pub lines: u64,
-    pub right: u64,
+// ---- the lines of the input
+
+// What takes the lines of a list, one after the other. `takes` relates what it was, a line, and what it then is.
+pub trait Replay {
+    ghost takes: { Self → List ℕ → Self → Type 0 };
+
+    // One line more. It has no line feed where the input ends within it.
+    fn line(&mut self, line: &[u8])
+        ensures { takes self.old line.now self.new };
 }
 
-// How many lines agree of how many.
+// Reads standard input to its end. A last line that is cut off is a line too. The turns are counted so that the loop is seen to
+// end; no run uses them up.
+pub fn replay_all<R: Replay>(list: &mut R)
+    ensures { Replayed R.takes list.old list.new }
+{
+    let mut line = [0u8; LINE_BYTES];
+    for _ in 0..u64::MAX {
+        let n = io::read_full(STDIN_FILENO, &mut line);
+        if n == 0 {
+            return;
+        }
+        list.line(&line[..n]);
+    }
+}
+
+// ---- what is counted
+
+// How many lines agree of how many. A count stays at the largest u64 once it is there; no list is as long.
 #[derive(Clone, Copy)]
 pub struct Tally {
     pub agreed: u64,
     pub asked: u64,
 }
 
-// A count stays at the largest u64 once it is there; no list is as long.
-fn one_more(n: u64) -> u64
-    ensures { result ≡ counted_on n }
-{
-    if n < u64::MAX { n + 1 } else { n }
+impl Tally {
+    const NONE: Tally = Tally {
+        agreed: 0,
+        asked: 0,
+    };
+
+    // One line more, which agrees or does not.
+    fn counted(self, agrees: bool) -> Tally
+        ensures { result ≡ tallied self agrees }
+    {
+        Tally {
+            agreed: self.agreed.saturating_add(agrees as u64),
+            asked: self.asked.saturating_add(1),
+        }
+    }
+
+    // Written by hand: `Display` writes through a handle, which the callers of `Counts::write` don't pass.
+    fn write(self, name: &[u8], mark: &[u8], end: &[u8]) {
+        io::write_all(STDOUT_FILENO, name);
+        io::write_all(STDOUT_FILENO, mark);
+        io::print_decimal(STDOUT_FILENO, self.agreed);
+        io::write_all(STDOUT_FILENO, b" of ");
+        io::print_decimal(STDOUT_FILENO, self.asked);
+        io::write_all(STDOUT_FILENO, end);
+    }
+}
+
+pub const KINDS: usize = 32;
+
+// The last kind is for lines that ask for nothing.
+pub const NO_KIND: u64 = KINDS as u64 - 1;
+
+// The lines of each kind, and of the whole list.
+#[derive(Clone, Copy)]
+pub struct Counts {
+    pub kinds: [Tally; KINDS],
+    pub all: Tally,
 }
 
 fn slot_of(kind: u64) -> usize
     ensures value { result ≡ slot_of kind }
     ensures upper_bound { result < 32 }
 {
-    if kind < 31 { kind as usize } else { 31 }
+    kind.min(NO_KIND) as usize
 }
 
 impl Counts {
@@ -157,10 +175,8 @@ impl Counts {
         ensures { result ≡ no_counts }
     {
         Counts {
-            asked: [0; 32],
-            agreed: [0; 32],
-            lines: 0,
-            right: 0,
+            kinds: [Tally::NONE; KINDS],
+            all: Tally::NONE,
         }
     }
 
@@ -169,12 +185,8 @@ impl Counts {
         ensures { result ≡ counted self kind agrees }
     {
         let slot = slot_of(kind);
-        self.asked[slot] = one_more(self.asked[slot]);
-        self.lines = one_more(self.lines);
-        if agrees {
-            self.agreed[slot] = one_more(self.agreed[slot]);
-            self.right = one_more(self.right);
-        }
+        self.kinds[slot] = self.kinds[slot].counted(agrees);
+        self.all = self.all.counted(agrees);
         self
     }
 
@@ -183,15 +195,8 @@ impl Counts {
     pub fn write(self, name: &[u8], kind: u64) -> Tally
         ensures { result ≡ tally_of self kind }
     {
-        let slot = slot_of(kind);
-        let tally = Tally {
-            agreed: self.agreed[slot],
-            asked: self.asked[slot],
-        };
-        io::write_all(STDOUT_FILENO, name);
-        io::write_all(STDOUT_FILENO, b" ");
-        write_of(tally);
-        io::write_all(STDOUT_FILENO, b"\n");
+        let tally = self.kinds[slot_of(kind)];
+        tally.write(name, b" ", b"\n");
         tally
     }
 
@@ -199,20 +204,7 @@ impl Counts {
     pub fn write_all(self, name: &[u8]) -> Tally
         ensures { result ≡ tally_of_all self }
     {
-        let tally = Tally {
-            agreed: self.right,
-            asked: self.lines,
-        };
-        io::write_all(STDOUT_FILENO, name);
-        io::write_all(STDOUT_FILENO, b": ");
-        write_of(tally);
-        io::write_all(STDOUT_FILENO, b" agree\n");
-        tally
+        self.all.write(name, b": ", b" agree\n");
+        self.all
     }
-}
-
-fn write_of(tally: Tally) {
-    io::print_decimal(STDOUT_FILENO, tally.agreed);
-    io::write_all(STDOUT_FILENO, b" of ");
-    io::print_decimal(STDOUT_FILENO, tally.asked);
 }

@@ -3,36 +3,24 @@
 // `streams.py write > stdin` in this crate's folder makes it.
 #![tactic(auto)]
 
-ghost use Rattle.std.specs.Prelude.{◌<◌};
-
 use sheet_text::MOST_TEXT;
 
-fn show(s: &[u8]) {
+fn show(stream: &[u8]) {
     let mut out = [0u8; MOST_TEXT];
-    let m = sheet_text::print_stream(s, &mut out);
+    let m = sheet_text::print_stream(stream, &mut out);
     io::write_all(1, &out[..m]);
 }
 
-fn wide(b: u8) -> usize
-    ensures { result < 256 }
-{
-    b as usize
-}
-
-fn show_all(s: &[u8]) {
-    let mut at = 0usize;
-    while at < s.len() {
-        if s.len() - at < 2 {
+// The streams one after the other, as far as they are whole.
+fn show_all(streams: &[u8]) {
+    let mut rest = streams;
+    while let Some((size, after)) = rest.split_first_chunk() {
+        let size = usize::from(u16::from_le_bytes(*size));
+        let Some((stream, next)) = after.split_at_checked(size) else {
             return;
-        }
-        let size = wide(s[at]) + 256 * wide(s[at + 1]);
-        let from = at + 2;
-        if s.len() - from < size {
-            return;
-        }
-        let end = from + size;
-        show(&s[from..end]);
-        at = end;
+        };
+        show(stream);
+        rest = next;
     }
 }
 

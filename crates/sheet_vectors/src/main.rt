@@ -26,20 +26,17 @@ use cobalnis::{
     cobalnis_replace, cobalnis_set_column,
 };
 use elementary::{from_bits, to_bits};
-use replay::{Counts, STDIN_FILENO, is_line, tag_of, word_at};
-use sheet_data::layout::{CELLS, COLUMNS, PARTS};
+use replay::{Counts, NO_KIND, Replay, is_line, replay_all, tag_of, word_at};
+use sheet_data::layout::{CELLS, COLUMNS};
+
+// How many columns, after three floats and before the Machs.
+const COLUMNS_AT: usize = MACHS_AT - 1;
 
 // ---- the state's number
 
 // One word more: xor, a turn by 23 bits, and a product with 2^40 + 435 that drops what is above 64 bits.
 fn mixed(h: u64, x: u64) -> u64 {
-    let y = h ^ x;
-    let z = (y << 23) | (y >> 41);
-    let three = std::num::wrapping_add_u64(z, z << 1);
-    let fifty_one = std::num::wrapping_add_u64(three, three << 4);
-    let rest = std::num::wrapping_add_u64(z << 7, z << 8);
-    let low = std::num::wrapping_add_u64(fifty_one, rest);
-    std::num::wrapping_add_u64(z << 40, low)
+    (h ^ x).rotate_left(23).wrapping_mul((1 << 40) + 435)
 }
 
 // A float's word, every NaN being one.
@@ -47,76 +44,104 @@ fn with_float(h: u64, word: u64) -> u64 {
     mixed(h, to_bits(from_bits(word)))
 }
 
-// The Mach and the Reynolds number of a column, where the sheet has so many.
-fn with_column(h: u64, words: &[u64; SHEET_WORDS], column: usize) -> u64 {
-    if COLUMNS <= column || words[3] <= column as u64 {
-        return h;
-    }
-    with_float(
-        with_float(h, words[MACHS_AT + column]),
-        words[REYNOLDS_AT + column],
+fn with_floats(h: u64, words: &[u64]) -> u64 {
+    words.iter().fold(h, |h, word| with_float(h, *word))
+}
+
+// The Machs and the Reynolds numbers of the columns, as far as the sheet has so many.
+fn with_columns(h: u64, words: &[u64; SHEET_WORDS]) -> u64 {
+    let machs = words[MACHS_AT..REYNOLDS_AT].iter();
+    let reynolds = words[REYNOLDS_AT..NOZZLE_AT].iter();
+    machs.zip(reynolds).take(words[COLUMNS_AT] as usize).fold(
+        h,
+        |h, (mach, reynolds)| with_float(with_float(h, *mach), *reynolds),
     )
 }
 
-// The words of a part, where the sheet has so many: a shape's number, five floats, a flag and a float.
-fn with_part(h: u64, words: &[u64; SHEET_WORDS], place: usize) -> u64 {
-    if PARTS <= place || words[PARTS_AT] <= place as u64 {
-        return h;
-    }
-    let at = FIRST_PART + PART_WORDS * place;
-    let h = with_float(mixed(h, words[at]), words[at + 1]);
-    let h = with_float(with_float(h, words[at + 2]), words[at + 3]);
-    let h = with_float(with_float(h, words[at + 4]), words[at + 5]);
-    with_float(mixed(h, words[at + 6]), words[at + 7])
+// The words of a part: a shape's number, five floats, a flag and a float.
+fn with_part(h: u64, part: &[u64; PART_WORDS]) -> u64 {
+    let h = with_floats(mixed(h, part[0]), &part[1..6]);
+    with_float(mixed(h, part[6]), part[7])
 }
 
-// The first n parts, or the first n columns.
-fn with_first(h: u64, words: &[u64; SHEET_WORDS], parts: bool, n: usize) -> u64 {
-    let mut sum = h;
-    let mut i = 0usize;
-    while i < n {
-        sum = if parts {
-            with_part(sum, words, i)
-        } else {
-            with_column(sum, words, i)
-        };
-        i += 1;
-    }
-    sum
-}
-
-fn with_cells(h: u64, cells: &[f64]) -> u64 {
-    let mut sum = h;
-    let mut i = 0usize;
-    while i < cells.len() {
-        sum = mixed(sum, to_bits(cells[i]));
-        i += 1;
-    }
-    sum
+// The parts, as far as the sheet has so many.
+fn with_parts(h: u64, words: &[u64; SHEET_WORDS]) -> u64 {
+    let (parts, _) = words[FIRST_PART..].as_chunks::<PART_WORDS>();
+    parts
+        .iter()
+        .take(words[PARTS_AT] as usize)
+        .fold(h, |h, part| with_part(h, part))
 }
 
 // The number of a sheet's words, as far as its counts reach, and of all cells.
 fn number_of(words: &[u64; SHEET_WORDS], cells: &[f64]) -> u64 {
-    let h = with_float(0xcbf2_9ce4_8422_2325, words[0]);
-    let h = with_float(with_float(h, words[1]), words[2]);
-    let h = with_first(mixed(h, words[3]), words, false, COLUMNS);
+    let h = with_floats(0xcbf2_9ce4_8422_2325, &words[..COLUMNS_AT]);
+    let h = with_columns(mixed(h, words[COLUMNS_AT]), words);
     let h = with_float(h, words[NOZZLE_AT]);
-    with_cells(
-        with_first(mixed(h, words[PARTS_AT]), words, true, PARTS),
-        cells,
-    )
+    let h = with_parts(mixed(h, words[PARTS_AT]), words);
+    cells.iter().fold(h, |h, cell| mixed(h, to_bits(*cell)))
 }
 
 // ---- what a line asks for
 
-fn is_call(tag: u8) -> bool {
-    match tag {
-        b'o' | b'i' | b'r' | b'm' | b't' | b'n' | b'b' => true,
-        _ => false,
+// The calls, in the order in which they are printed.
+#[derive(Clone, Copy)]
+enum Call {
+    Open,
+    Replace,
+    Insert,
+    Remove,
+    SetColumn,
+    Ignite,
+    Burnout,
+}
+
+const NAMES: [&[u8]; 7] = [
+    b"open",
+    b"replace",
+    b"insert",
+    b"remove",
+    b"set column",
+    b"ignite",
+    b"burnout",
+];
+
+#[derive(Clone, Copy)]
+enum Change {
+    Words,
+    Roughness,
+    Lent,
+    Fill,
+    Poke,
+}
+
+#[derive(Clone, Copy)]
+enum Asked {
+    Call(Call),
+    Change(Change),
+}
+
+impl Asked {
+    fn of_tag(tag: u8) -> Option<Asked> {
+        Some(match tag {
+            b'o' => Asked::Call(Call::Open),
+            b'i' => Asked::Call(Call::Insert),
+            b'r' => Asked::Call(Call::Replace),
+            b'm' => Asked::Call(Call::Remove),
+            b't' => Asked::Call(Call::SetColumn),
+            b'n' => Asked::Call(Call::Ignite),
+            b'b' => Asked::Call(Call::Burnout),
+            b'w' => Asked::Change(Change::Words),
+            b'k' => Asked::Change(Change::Roughness),
+            b'l' => Asked::Change(Change::Lent),
+            b'f' => Asked::Change(Change::Fill),
+            b'p' => Asked::Change(Change::Poke),
+            _ => return None,
+        })
     }
 }
 
-// The last two words of a part, which its own line has no room for.
+// The last two words of a part, which its own line has no room for. C gives any flag, also one that is to be refused, so it is no Option.
 #[derive(Clone, Copy)]
 struct Roughness {
     flag: u64,
@@ -136,216 +161,136 @@ fn part_at(line: &[u8], roughness: Roughness) -> [u64; PART_WORDS] {
     ]
 }
 
-// The call of a tag, on the cells that are lent: its status, and the value refused.
-fn called(
-    line: &[u8],
+// ---- the state
+
+// Room for one row of cells too many.
+const ROOM: usize = CELLS + COLUMNS;
+
+// The sheet's words, all cells, how many of these are lent, the last two words of the parts given, and what is counted so far.
+#[derive(Drop)]
+struct State {
+    words: [u64; SHEET_WORDS],
+    cells: [f64; ROOM],
+    lent: usize,
     roughness: Roughness,
-    words: &mut [u64; SHEET_WORDS],
-    cells: &mut [f64],
-    bits: &mut u64,
-) -> u32 {
-    let first = word_at(line, 0);
-    let at = first as usize;
-    let part = part_at(line, roughness);
-    match tag_of(line) {
-        b'o' => cobalnis_open(words, cells, bits),
-        b'i' => cobalnis_insert(words, at, &part, cells, bits),
-        b'r' => cobalnis_replace(words, at, &part, cells, bits),
-        b'm' => cobalnis_remove(words, at, cells, bits),
-        b'n' => cobalnis_ignite(words, from_bits(first), cells, bits),
-        b'b' => cobalnis_burnout(words, cells, bits),
-        _ => {
-            let mach = from_bits(word_at(line, 1));
-            let reynolds = from_bits(word_at(line, 2));
-            cobalnis_set_column(words, at, mach, reynolds, cells, bits)
+    counts: Counts,
+}
+
+impl State {
+    // A sheet of zeros and no cell lent.
+    fn blank() -> State {
+        State {
+            words: [0; SHEET_WORDS],
+            cells: [0.0; ROOM],
+            lent: 0,
+            roughness: Roughness { flag: 0, bits: 0 },
+            counts: Counts::none(),
         }
     }
-}
 
-fn put_word(at: u64, which: u8, word: u64, words: &mut [u64; SHEET_WORDS]) {
-    if at < SHEET_WORDS as u64 {
-        let to = at as usize + which as usize;
-        if to < SHEET_WORDS {
-            words[to] = word;
+    // The status and the value refused of a call on the cells that are lent; nothing where there are not so many.
+    fn called(&mut self, call: Call, line: &[u8]) -> Option<(u32, u64)> {
+        let first = word_at(line, 0);
+        let at = first as usize;
+        let part = part_at(line, self.roughness);
+        let words = &mut self.words;
+        let cells = self.cells.get_mut(..self.lent)?;
+        let mut refused = 0u64;
+        let status = match call {
+            Call::Open => cobalnis_open(words, cells, &mut refused),
+            Call::Insert => cobalnis_insert(words, at, &part, cells, &mut refused),
+            Call::Replace => cobalnis_replace(words, at, &part, cells, &mut refused),
+            Call::Remove => cobalnis_remove(words, at, cells, &mut refused),
+            Call::Ignite => cobalnis_ignite(words, from_bits(first), cells, &mut refused),
+            Call::Burnout => cobalnis_burnout(words, cells, &mut refused),
+            Call::SetColumn => {
+                let mach = from_bits(word_at(line, 1));
+                let reynolds = from_bits(word_at(line, 2));
+                cobalnis_set_column(words, at, mach, reynolds, cells, &mut refused)
+            }
+        };
+        Some((status, refused))
+    }
+
+    // Words of the sheet, by hand: up to six, as many as the line says and as there is room.
+    fn put_words(&mut self, line: &[u8]) {
+        let at = word_at(line, 0) as usize;
+        let count = word_at(line, 1) as usize;
+        for (word, which) in self.words.iter_mut().skip(at).take(count).zip(2..8) {
+            *word = word_at(line, which);
         }
     }
-}
 
-// Words of the sheet, by hand.
-fn put_words(line: &[u8], words: &mut [u64; SHEET_WORDS]) {
-    let at = word_at(line, 0);
-    let count = word_at(line, 1);
-    let mut i = 0u8;
-    while i < 6 {
-        if (i as u64) < count {
-            put_word(at, i, word_at(line, 2 + i), words);
+    // Cell k gets the bits first + k × step.
+    fn fill(&mut self, first: u64, step: u64) {
+        let mut bits = first;
+        for cell in &mut self.cells {
+            *cell = from_bits(bits);
+            bits = bits.wrapping_add(step);
         }
-        i += 1;
     }
-}
 
-// Cell k gets the bits first + k × step.
-fn fill(first: u64, step: u64, cells: &mut [f64]) {
-    let mut bits = first;
-    let mut i = 0usize;
-    while i < cells.len() {
-        cells[i] = from_bits(bits);
-        bits = std::num::wrapping_add_u64(bits, step);
-        i += 1;
+    // A change by hand.
+    fn change(&mut self, change: Change, line: &[u8]) {
+        let first = word_at(line, 0);
+        let second = word_at(line, 1);
+        match change {
+            Change::Words => self.put_words(line),
+            Change::Roughness => {
+                self.roughness = Roughness {
+                    flag: first,
+                    bits: second,
+                };
+            }
+            Change::Lent => self.lent = first as usize,
+            Change::Fill => self.fill(first, second),
+            Change::Poke => {
+                if let Some(cell) = self.cells.get_mut(first as usize) {
+                    *cell = from_bits(second);
+                }
+            }
+        }
     }
-}
 
-fn poke(at: usize, value: f64, cells: &mut [f64]) {
-    if at < cells.len() {
-        cells[at] = value;
+    // Whether the line can be read and ends with this status, this value and the state's number.
+    fn is_answered(&self, line: &[u8], status: u32, refused: u64) -> bool {
+        is_line(line)
+            & (word_at(line, 8) == status as u64)
+            & (word_at(line, 9) == refused)
+            & (word_at(line, 10) == number_of(&self.words, &self.cells))
     }
-}
-
-// A change by hand, of the words or of the cells.
-fn change(line: &[u8], words: &mut [u64; SHEET_WORDS], cells: &mut [f64]) {
-    let first = word_at(line, 0);
-    let second = word_at(line, 1);
-    match tag_of(line) {
-        b'w' => put_words(line, words),
-        b'f' => fill(first, second, cells),
-        b'p' => poke(first as usize, from_bits(second), cells),
-        _ => {}
-    }
-}
-
-// A call, or a change by hand, whose status is 0.
-fn carried_out(
-    line: &[u8],
-    roughness: Roughness,
-    cell_count: usize,
-    words: &mut [u64; SHEET_WORDS],
-    cells: &mut [f64],
-    bits: &mut u64,
-) -> u32 {
-    if is_call(tag_of(line)) && cell_count <= cells.len() {
-        return called(line, roughness, words, &mut cells[0..cell_count], bits);
-    }
-    change(line, words, cells);
-    0
 }
 
 // ---- replaying
 
-// What is counted so far, the last two words of the parts given, how many cells are lent, and whether there may be more lines.
-#[derive(Clone, Copy)]
-struct Turn {
-    counts: Counts,
-    roughness: Roughness,
-    cell_count: usize,
-    more: bool,
-}
+impl Replay for State {
+    // Nothing is said of what a line leaves.
+    ghost takes = { λ _ _ _. Unit {0} };
 
-fn kind_of(tag: u8) -> u64 {
-    match tag {
-        b'o' => 0,
-        b'i' => 1,
-        b'r' => 2,
-        b'm' => 3,
-        b't' => 4,
-        b'n' => 5,
-        b'b' => 6,
-        _ => 31,
+    fn line(&mut self, line: &[u8]) {
+        match Asked::of_tag(tag_of(line)) {
+            Some(Asked::Call(call)) => {
+                let (status, refused) = self.called(call, line).unwrap_or((0, 0));
+                let agrees = self.is_answered(line, status, refused);
+                self.counts = self.counts.counted(call as u64, agrees);
+            }
+            changed => {
+                if let Some(Asked::Change(change)) = changed {
+                    self.change(change, line);
+                }
+                if !self.is_answered(line, 0, 0) {
+                    self.counts = self.counts.counted(NO_KIND, false);
+                }
+            }
+        }
     }
-}
-
-fn counted(counts: Counts, tag: u8, agrees: bool) -> Counts {
-    if is_call(tag) || !agrees {
-        counts.counted(kind_of(tag), agrees)
-    } else {
-        counts
-    }
-}
-
-// Whether the line can be read and ends with this status, this value and this number of the state.
-fn is_answered(line: &[u8], status: u32, bits: u64, number: u64) -> bool {
-    is_line(line)
-        & (word_at(line, 8) == status as u64)
-        & (word_at(line, 9) == bits)
-        & (word_at(line, 10) == number)
-}
-
-// The roughness of the parts that follow a line.
-fn roughness_after(line: &[u8], before: Roughness) -> Roughness {
-    if tag_of(line) == b'k' {
-        return Roughness {
-            flag: word_at(line, 0),
-            bits: word_at(line, 1),
-        };
-    }
-    before
-}
-
-// One line more.
-fn after(turn: Turn, line: &[u8], words: &mut [u64; SHEET_WORDS], cells: &mut [f64]) -> Turn {
-    let tag = tag_of(line);
-    let counts = turn.counts;
-    let roughness = turn.roughness;
-    let mut bits = 0u64;
-    let status = carried_out(line, roughness, turn.cell_count, words, cells, &mut bits);
-    let agrees = is_answered(line, status, bits, number_of(words, cells));
-    let cell_count = if tag == b'l' {
-        word_at(line, 0) as usize
-    } else {
-        turn.cell_count
-    };
-    Turn {
-        counts: counted(counts, tag, agrees),
-        roughness: roughness_after(line, roughness),
-        cell_count,
-        more: true,
-    }
-}
-
-// Reads one line. A last line that is cut off is a line too.
-fn replay_line(turn: Turn, words: &mut [u64; SHEET_WORDS], cells: &mut [f64]) -> Turn {
-    let mut line = [0u8; 189];
-    let n = io::read_full(STDIN_FILENO, &mut line);
-    if n == 0 {
-        let counts = turn.counts;
-        let roughness = turn.roughness;
-        return Turn {
-            counts,
-            roughness,
-            cell_count: turn.cell_count,
-            more: false,
-        };
-    }
-    after(turn, &line[..n], words, cells)
-}
-
-// To the end of the input, from a sheet of zeros and no cell lent. The turns are counted down so that the loop is seen to end; no run
-// uses them up.
-fn replay_all() -> Counts {
-    let mut words = [0u64; SHEET_WORDS];
-    let mut cells = [0.0; CELLS + COLUMNS];
-    let mut turns = u64::MAX;
-    let mut turn = Turn {
-        counts: Counts::none(),
-        roughness: Roughness { flag: 0, bits: 0 },
-        cell_count: 0,
-        more: true,
-    };
-    while turns > 0 && turn.more {
-        let before = turn;
-        turn = replay_line(before, &mut words, &mut cells);
-        turns -= 1;
-    }
-    turn.counts
 }
 
 fn main() {
-    let counts = replay_all();
-    counts.write_all(b"sheet");
-    counts.write(b"open", 0);
-    counts.write(b"replace", 2);
-    counts.write(b"insert", 1);
-    counts.write(b"remove", 3);
-    counts.write(b"set column", 4);
-    counts.write(b"ignite", 5);
-    counts.write(b"burnout", 6);
+    let mut list = State::blank();
+    replay_all(&mut list);
+    list.counts.write_all(b"sheet");
+    for (kind, name) in NAMES.iter().enumerate() {
+        list.counts.write(name, kind as u64);
+    }
 }

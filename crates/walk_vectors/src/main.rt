@@ -11,11 +11,10 @@
 //     cargo run --release --offline --bin walk_list > ../crates/walk_vectors/stdin
 #![tactic(auto)]
 
-ghost use Rattle.std.specs.Prelude.{◌≡◌, length};
-
 use cobalnis::cobalnis_nose_walk;
 use elementary::{from_bits, to_bits};
-use replay::{Counts, STDIN_FILENO, is_line, tag_of, word_at};
+use replay::{Counts, NO_KIND, Replay, is_line, replay_all, tag_of, word_at};
+use std::iter::repeat;
 use walk::QUERIES;
 
 // Room for one query too many.
@@ -23,153 +22,116 @@ const ROOM: usize = QUERIES + 1;
 
 // ---- what a line asks for
 
-// Where a line's item goes, from 0 on, or `ROOM` where the line has no such item.
-fn place_of(line: &[u8], item: u8) -> usize {
-    let at = word_at(line, 0);
-    if at < ROOM as u64 && (item as u64) < word_at(line, 1) {
-        at as usize + item as usize
-    } else {
-        ROOM
+#[derive(Clone, Copy)]
+enum Asked {
+    Queries,
+    Cells,
+    Walk,
+    Answers,
+}
+
+impl Asked {
+    fn of_tag(tag: u8) -> Option<Asked> {
+        match tag {
+            b'q' => Some(Asked::Queries),
+            b'c' => Some(Asked::Cells),
+            b'w' => Some(Asked::Walk),
+            b'x' => Some(Asked::Answers),
+            _ => None,
+        }
     }
 }
 
-fn put_one(place: usize, word: u64, values: &mut [f64])
-    ensures { length values.new ≡ length values.old }
-{
-    if place < values.len() {
-        values[place] = from_bits(word);
-    }
+// What is counted.
+#[derive(Clone, Copy)]
+enum Kind {
+    Walk,
+    Answers,
 }
 
-// Up to nine queries, or cells.
-fn put(line: &[u8], values: &mut [f64]) {
-    let mut item = 0u8;
-    while item < 9 {
-        put_one(place_of(line, item), word_at(line, 2 + item), values);
-        item += 1;
-    }
-}
-
-fn holds_one(place: usize, word: u64, cells: &[f64]) -> bool {
-    if place < cells.len() {
-        to_bits(cells[place]) == word
-    } else {
-        word == 0
+// Up to nine queries, or cells, from the line's place on.
+fn put(line: &[u8], values: &mut [f64; ROOM]) {
+    let at = word_at(line, 0) as usize;
+    let count = word_at(line, 1) as usize;
+    for (value, which) in values.iter_mut().skip(at).take(count).zip(2..11) {
+        *value = from_bits(word_at(line, which));
     }
 }
 
 // Whether up to nine cells are as the line says; zeros stand where there are fewer.
-fn holds(line: &[u8], cells: &[f64]) -> bool {
-    let mut all = true;
-    let mut item = 0u8;
-    while item < 9 {
-        all = all & holds_one(place_of(line, item), word_at(line, 2 + item), cells);
-        item += 1;
-    }
-    all
-}
-
-// Whether a walk of the first so many queries, with the first so many cells lent, answers what the line says.
-fn answers(
-    line: &[u8],
-    nose: u32,
-    asked: usize,
-    lent: usize,
-    queries: &[f64],
-    cells: &mut [f64],
-) -> bool {
-    if queries.len() < asked {
-        return false;
-    }
-    if cells.len() < lent {
-        return false;
-    }
-    let mut compared = word_at(line, 3) as usize;
-    let mut bits = 0u64;
-    let status = cobalnis_nose_walk(
-        nose,
-        &queries[0..asked],
-        &mut cells[0..lent],
-        &mut compared,
-        &mut bits,
-    );
-    (status as u64 == word_at(line, 4))
-        & (bits == word_at(line, 5))
-        & (compared as u64 == word_at(line, 6))
-}
-
-fn walked(line: &[u8], queries: &[f64], cells: &mut [f64]) -> bool {
-    let nose = word_at(line, 0);
-    let asked = word_at(line, 1) as usize;
-    let lent = word_at(line, 2) as usize;
-    nose <= 65535 && answers(line, nose as u32, asked, lent, queries, cells)
+fn holds(line: &[u8], cells: &[f64; ROOM]) -> bool {
+    let at = word_at(line, 0) as usize;
+    let count = word_at(line, 1) as usize;
+    let named = cells.iter().skip(at).take(count).map(|cell| to_bits(*cell));
+    (2..11)
+        .zip(named.chain(repeat(0)))
+        .all(|(which, word)| word_at(line, which) == word)
 }
 
 // ---- replaying
 
-// One line more.
-fn after(counts: Counts, line: &[u8], queries: &mut [f64], cells: &mut [f64]) -> Counts {
-    if !is_line(line) {
-        return counts.counted(31, false);
-    }
-    match tag_of(line) {
-        b'q' => {
-            put(line, queries);
-            counts
-        }
-        b'c' => {
-            put(line, cells);
-            counts
-        }
-        b'w' => counts.counted(0, walked(line, queries, cells)),
-        b'x' => counts.counted(1, holds(line, cells)),
-        _ => counts.counted(31, false),
-    }
-}
-
-// What is counted so far, and whether there may be more lines.
-#[derive(Clone, Copy)]
-struct Turn {
+// The queries, the cells, and what is counted so far.
+#[derive(Drop)]
+struct Walks {
+    queries: [f64; ROOM],
+    cells: [f64; ROOM],
     counts: Counts,
-    more: bool,
 }
 
-// Reads one line. A last line that is cut off is a line too.
-fn replay_line(counts: Counts, queries: &mut [f64], cells: &mut [f64]) -> Turn {
-    let mut line = [0u8; 189];
-    let n = io::read_full(STDIN_FILENO, &mut line);
-    if n == 0 {
-        return Turn {
-            counts,
-            more: false,
-        };
+impl Walks {
+    // The status, the value refused and the count's word of a walk of the first so many queries, with the first so many cells lent;
+    // nothing where a word names no nose, or more queries or cells than there are.
+    fn walked(&mut self, line: &[u8]) -> Option<[u64; 3]> {
+        let nose = u16::try_from(word_at(line, 0)).ok()?;
+        let queries = self.queries.get(..word_at(line, 1) as usize)?;
+        let cells = self.cells.get_mut(..word_at(line, 2) as usize)?;
+        let mut compared = word_at(line, 3) as usize;
+        let mut refused = 0u64;
+        let status = cobalnis_nose_walk(
+            u32::from(nose),
+            queries,
+            cells,
+            &mut compared,
+            &mut refused,
+        );
+        Some([status as u64, refused, compared as u64])
     }
-    Turn {
-        counts: after(counts, &line[..n], queries, cells),
-        more: true,
+
+    fn count(&mut self, kind: u64, agrees: bool) {
+        self.counts = self.counts.counted(kind, agrees);
     }
 }
 
-// To the end of the input, from zeros. The turns are counted down so that the loop is seen to end; no run uses them up.
-fn replay_all() -> Counts {
-    let mut queries = [0.0; ROOM];
-    let mut cells = [0.0; ROOM];
-    let mut turns = u64::MAX;
-    let mut turn = Turn {
-        counts: Counts::none(),
-        more: true,
-    };
-    while turns > 0 && turn.more {
-        let counts = turn.counts;
-        turn = replay_line(counts, &mut queries, &mut cells);
-        turns -= 1;
+impl Replay for Walks {
+    // Nothing is said of what a line leaves.
+    ghost takes = { λ _ _ _. Unit {0} };
+
+    fn line(&mut self, line: &[u8]) {
+        match Asked::of_tag(tag_of(line)).filter(|_| is_line(line)) {
+            Some(Asked::Queries) => put(line, &mut self.queries),
+            Some(Asked::Cells) => put(line, &mut self.cells),
+            Some(Asked::Walk) => {
+                let stored = [word_at(line, 4), word_at(line, 5), word_at(line, 6)];
+                let agrees = self.walked(line) == Some(stored);
+                self.count(Kind::Walk as u64, agrees);
+            }
+            Some(Asked::Answers) => {
+                let agrees = holds(line, &self.cells);
+                self.count(Kind::Answers as u64, agrees);
+            }
+            None => self.count(NO_KIND, false),
+        }
     }
-    turn.counts
 }
 
 fn main() {
-    let counts = replay_all();
-    counts.write_all(b"walks");
-    counts.write(b"nose_walk", 0);
-    counts.write(b"answer cells", 1);
+    let mut list = Walks {
+        queries: [0.0; ROOM],
+        cells: [0.0; ROOM],
+        counts: Counts::none(),
+    };
+    replay_all(&mut list);
+    list.counts.write_all(b"walks");
+    list.counts.write(b"nose_walk", Kind::Walk as u64);
+    list.counts.write(b"answer cells", Kind::Answers as u64);
 }

@@ -1,7 +1,6 @@
 -- The loop of `show_all`: nothing has to hold from turn to turn; what is left of the bytes falls.
-use Prim.Native.Nat.{◌-◌}
-use lib.ListN.{length}
+use Rattle.std.proofs.Common.{length}
 use Rattle.sheet_runs.proofs.show_all.Given as goal
 
-abbrev pub decreases-loop-at : goal.decreases-loop-at
-decreases-loop-at l = length l.s - l.at
+abbrev pub decreases-loop-size : goal.decreases-loop-size
+decreases-loop-size l = length l.rest
