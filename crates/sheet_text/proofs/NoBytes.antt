@@ -6,7 +6,7 @@ use lib.ListN.{length, replicate}
 use Rattle.elementary.specs.Constants.{0·0}
 use Rattle.sheet_data.specs.Layout.{most_cells}
 use Rattle.cards.specs.Cards.{settings_at}
-use Rattle.card_run.specs.Run.{stream_from}
+use Rattle.card_run.specs.Run.{card_of, stream_from}
 use Rattle.card_run.proofs.NoCard.{no_bytes, other_streams}
 use Rattle.sheet_text.specs.Text.{ran_text, sheet_text, answer_text}
 
@@ -23,6 +23,6 @@ pub no_bytes_text : answer_text [] ≡ names_alone
 unfolding answer_text sheet_text
 no_bytes_text = ap ran_text (no_bytes (replicate most_cells 0·0))
 
-pub other_texts : (s : List ℕ) → 0 < length s → answer_text s ≡ ran_text (stream_from s (settings_at s 0) (replicate most_cells 0·0))
+pub other_texts : (s : List ℕ) → 0 < length s → answer_text s ≡ ran_text (stream_from s (card_of (settings_at s 0)) (replicate most_cells 0·0))
 unfolding answer_text
 other_texts s h = ap ran_text (other_streams (replicate most_cells 0·0) s h)
