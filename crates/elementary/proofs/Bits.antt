@@ -1,5 +1,5 @@
 -- `split_of` speaks of a float's value, and the code of its 64 bits, class by class: both take the float apart alike (`split_class_lem`).
-use mathlib.Core.Path.{◌≡◌, refl, sym, ap, ◌∙◌, subst, subst₂}
+use mathlib.Core.Path.{◌≡◌, refl, sym, ap, ◌∙◌, subst}
 use mathlib.Core.Bool.{Bool, false, cond, ◌&&◌}
 use Prim.Native.Nat.{ℕ, zero, suc, ◌+◌, ◌-◌, ◌*◌, ◌/◌, ◌%◌, ◌^◌, ◌≤◌, ◌<◌}
 use native.Mathlib.Nat.{mul_assoc, mul_comm, mul-one, zero-mul, zero-div, mul-div_cancel, div-lt_iff_lt-mul, le-div_iff_mul-le, lt_of_lt_of_le, lt_of_not-le, not-le_of_lt, le_of_suc-le-suc, lt_irrefl, le_antisymm, mul_right_comm, le_of_eq, mul-le-mul_right, mul-lt-mul_of_pos_right, lt_of_mul-lt-mul_right, mul-pos, zero-lt-suc}
@@ -16,9 +16,9 @@ use lib.Ieee.Fits.{down_pos, and_l, and_r}
 use lib.Ieee.Exact.{HasValue}
 use Rattle.elementary.specs.declared.class.FloatClass.{FloatClass}
 use Rattle.elementary.specs.declared.class.FloatClass.TheVariants.{Zero, Subnormal, Normal, Infinity, NaN}
-use Rattle.elementary.specs.declared.split.Parts.TheVariants.{Finite}
 use Rattle.elementary.specs.Classes.{sign_bit, exponent_field, significand_field, InClass, Stands, split_class}
-use Rattle.elementary.specs.Split.{units, normalised, split_of, Taken}
+use Rattle.elementary.specs.Figures.{Taken}
+use Rattle.elementary.specs.Split.{units, normalised, finite_parts, split_of}
 use Rattle.elementary.specs.Nearest.{units_of}
 use Rattle.elementary.proofs.Classes.{field_narrow, stands, no_zero}
 
@@ -39,12 +39,27 @@ small_normalised n d h =
     ∙ ap (λ (a : ℕ). a / 2 ^ d) (sym (mul_assoc n (2 ^ (53 - d)) (2 ^ d)))
     ∙ mul-div_cancel (n * 2 ^ (53 - d)) (pow_pos d)
 
+-- what is known of the figures of a finite number
+pub taken_units : (n : ℕ) → 0 < n → n < 2 ^ 2098 → Taken (normalised n (size n)) (size n)
+taken_units n p h =
+    let d = size n in
+    let nz : (d ≡ 0 → ⊥) = λ (z : d ≡ 0). lt_irrefl 0 (subst (λ (a : ℕ). 0 < a) (lt-one (subst (λ (k : ℕ). n < 2 ^ k) z (size-lt n))) p) in
+    let two : 2 ^ d ≡ 2 ^ (d - 1) * 2 = ap (λ (k : ℕ). 2 ^ k) (sym (back d 1 (omega arith))) ∙ pow-add 2 (d - 1) 1 in
+    let half : 2 ^ (d - 1) ≤ n = size_reaches n (d - 1) (omega arith) in
+    record {
+      full = (le-div_iff_mul-le (pow_pos d)).1 (rw two (omega arith));
+      narrow = (div-lt_iff_lt-mul (pow_pos d)).1 (omega (arith, size-lt n));
+      some = omega arith;
+      few = size-le n 2098 h;
+    }
+
 -- a field other than zero has from 12 to 63 leading zeros; shifted, nothing of it is lost and it has 53 digits
 pub record Room (t : ℕ) : Type 0 where
   pub low : 12 ≤ count_leading_zeros 64 t
   pub high : count_leading_zeros 64 t ≤ 63
   pub kept : t * 2 ^ shift t % 2 ^ 64 ≡ normalised t (size t)
   pub digits : 53 - shift t ≡ size t
+  pub taken : Taken (normalised t (size t)) (size t)
 
 pub room : (t : ℕ) → (t ≡ 0 → ⊥) → t < 2 ^ 52 → Room t
 room t nz h =
@@ -57,6 +72,7 @@ room t nz h =
       high = omega arith;
       kept = shl_exact (size t) (shift t) 64 (size-lt t) (omega arith) ∙ ap (λ (a : ℕ). t * 2 ^ a) k ∙ sym (small_normalised t (size t) (omega arith));
       digits = omega arith;
+      taken = taken_units t (omega arith) (lt_of_lt_of_le h (pow_mono {i = 52} {j = 2098} (omega arith)));
     }
 
 -- ---- what binary64 holds is a whole number of 2 ^ -1074
@@ -133,7 +149,7 @@ to_bits_lem s m e = refl
 -- ---- the split of each class
 
 -- x is n units
-split_units : (x : Float) (s : Bool) (n : ℕ) → HasValue x s n (2 ^ 1074) → 0 < n → split_of x ≡ Finite s (normalised n (size n)) (size n)
+split_units : (x : Float) (s : Bool) (n : ℕ) → HasValue x s n (2 ^ 1074) → 0 < n → split_of x ≡ finite_parts s (normalised n (size n)) (size n)
 unfolding split_of
 split_units nan s n v p = absurd v
 split_units (inf t) s n v p = absurd v
@@ -152,7 +168,7 @@ full_normalised : (g k : ℕ) → normalised (g * 2 ^ k) (53 + k) ≡ g
 full_normalised g k =
     ap (λ (a : ℕ). a / 2 ^ (53 + k)) (mul_assoc g (2 ^ k) (2 ^ 53) ∙ ap (λ (a : ℕ). g * a) (mul_comm (2 ^ k) (2 ^ 53) ∙ sym (pow-add 2 53 k))) ∙ mul-div_cancel g (pow_pos (53 + k))
 
-normal_split : (x : Float) (s : Bool) (f t : ℕ) → HasValue x s ((2 ^ 52 + t) * 2 ^ (f - 1)) (2 ^ 1074) → 1 ≤ f → t < 2 ^ 52 → split_of x ≡ Finite s (2 ^ 52 + t) (f + 52)
+normal_split : (x : Float) (s : Bool) (f t : ℕ) → HasValue x s ((2 ^ 52 + t) * 2 ^ (f - 1)) (2 ^ 1074) → 1 ≤ f → t < 2 ^ 52 → split_of x ≡ finite_parts s (2 ^ 52 + t) (f + 52)
 normal_split x s f t v p h =
     let g = 2 ^ 52 + t in
     let k = f - 1 in
@@ -173,30 +189,3 @@ split_class_lem x h c i = go c i (subst (Stands c b) (of_bits-to_bits binary64 x
     go Normal i v = normal_split x (sign_bit b) (exponent_field b) (significand_field b) v i.0 (field_narrow b)
     go Infinity i v = ap split_of v ∙ unfold split_of in refl
     go NaN i v = ap split_of v ∙ unfold split_of in refl
-
--- ---- what is known of the parts of a finite number
-
-pub taken_units : (n : ℕ) → 0 < n → n < 2 ^ 2098 → Taken (normalised n (size n)) (size n)
-taken_units n p h =
-    let d = size n in
-    let nz : (d ≡ 0 → ⊥) = λ (z : d ≡ 0). lt_irrefl 0 (subst (λ (a : ℕ). 0 < a) (lt-one (subst (λ (k : ℕ). n < 2 ^ k) z (size-lt n))) p) in
-    let two : 2 ^ d ≡ 2 ^ (d - 1) * 2 = ap (λ (k : ℕ). 2 ^ k) (sym (back d 1 (omega arith))) ∙ pow-add 2 (d - 1) 1 in
-    let half : 2 ^ (d - 1) ≤ n = size_reaches n (d - 1) (omega arith) in
-    record {
-      full = (le-div_iff_mul-le (pow_pos d)).1 (rw two (omega arith));
-      narrow = (div-lt_iff_lt-mul (pow_pos d)).1 (omega (arith, size-lt n));
-      some = omega arith;
-      few = size-le n 2098 h;
-    }
-
-pub taken : (x : Float) {s : Bool} {g d : ℕ} → T (fits binary64 x) → split_of x ≡ Finite s g d → Taken g d
-unfolding split_of
-taken nan h e = let z : ◌≡◌ {A = ℕ} 0 1 = cc in absurd (omega arith)
-taken (inf s) h e = let z : ◌≡◌ {A = ℕ} 0 1 = cc in absurd (omega arith)
-taken (fin s zero k) h e = let z : ◌≡◌ {A = ℕ} 0 1 = cc in absurd (omega arith)
-taken (fin s (suc m) k) {g = g} {d = d} h e =
-    let u = in_units m k (held s m k h) in
-    let n = units (suc m) k in
-    let a : normalised n (size n) ≡ g = cc in
-    let b : size n ≡ d = cc in
-    subst₂ Taken a b (taken_units n u.some u.few)

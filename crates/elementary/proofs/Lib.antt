@@ -17,5 +17,5 @@ pub mod Nearest
 pub mod Unique
 pub mod RootBound
 pub mod Floor
-pub mod Cases
 pub mod Rounding
+pub mod Series

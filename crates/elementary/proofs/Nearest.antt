@@ -19,7 +19,8 @@ use lib.Ieee.Back.{round_whole}
 use lib.Ieee.Positive.{positive, positive_of_value, mul_at}
 use borrow.Author.Tests.{eq-eqb, ne_eqb}
 use Rattle.elementary.specs.Arithmetic.{◌⊗◌, whole}
-use Rattle.elementary.specs.Split.{units, normalised, split_of, two^, Taken}
+use Rattle.elementary.specs.Figures.{Taken}
+use Rattle.elementary.specs.Split.{units, normalised, split_of, two^}
 use Rattle.elementary.specs.Root.{root_of, nearest_root}
 use Rattle.elementary.specs.Steps.{SQRT, sqrt_steps}
 use Rattle.elementary.specs.Nearest.{units_of, NearestRoot}

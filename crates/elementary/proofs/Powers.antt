@@ -1,6 +1,6 @@
 -- Powers of two as floats: their bits, and the difference of two exponents.
-use mathlib.Core.Path.{◌≡◌, refl}
-use mathlib.Core.Bool.{true, false, not}
+use mathlib.Core.Path.{◌≡◌}
+use mathlib.Core.Bool.{false, not}
 use Prim.Native.Nat.{ℕ, zero, suc, ◌+◌, ◌-◌, ◌*◌, ◌/◌, ◌%◌, ◌^◌, ◌≤◌}
 use native.Mathlib.Nat.{not-suc-le-zero}
 use native.Mathlib.Decide.{dec_le}
@@ -10,7 +10,7 @@ use lib.Dec.{T}
 use lib.Ieee.{binary64, minus, of_bits, of_fields, odd, nan_bits}
 use lib.Ieee.Bits.{nan_bits_above}
 use borrow.Author.Tests.{le-leb, lt-leb, le-ltb, ne_eqb}
-use Rattle.elementary.specs.Split.{two^, signed}
+use Rattle.elementary.specs.Split.{two^}
 
 -- ---- a - b, both raised by d
 pub minus_shift : (a b d : ℕ) → minus (a + d) (b + d) ≡ minus a b
@@ -19,14 +19,6 @@ minus_shift a b d =
       | yes h ↦ let e : a + d - (b + d) ≡ a - b = omega arith in rw (le-leb b a h, le-leb (b + d) (a + d) (omega arith), e)
       | no h ↦ let e : b + d - suc (a + d) ≡ b - suc a = omega arith in rw (lt-leb b a (omega arith), lt-leb (b + d) (a + d) (omega arith), e)
     ]
-
--- ---- 1023 + n and 1023 - n, less 1023
-pub minus_up : (n : ℕ) → minus (1023 + n) 1023 ≡ signed false n
-minus_up n = let e : 1023 + n - 1023 ≡ n = omega arith in rw (le-leb 1023 (1023 + n) (omega arith), e)
-
-pub minus_down : (n : ℕ) → n ≤ 1022 → minus (1023 - n) 1023 ≡ signed true n
-minus_down zero h = refl
-minus_down (suc n) h = let e : 1023 - suc (1023 - suc n) ≡ n = omega arith in rw (lt-leb 1023 (1023 - suc n) (omega arith), e)
 
 -- ---- the pattern with the field x and no fraction
 

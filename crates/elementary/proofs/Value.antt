@@ -2,7 +2,7 @@
 use mathlib.Core.Path.{◌≡◌, refl, sym, ap, ◌∙◌, subst}
 use mathlib.Core.Bool.{Bool, true, false}
 use Prim.Native.Nat.{ℕ, zero, suc, ◌+◌, ◌-◌, ◌*◌, ◌/◌, ◌%◌, ◌^◌, ◌≤◌, ◌<◌}
-use native.Mathlib.Nat.{mul_assoc, mul_comm, mul_right_comm, one-mul, zero-mul, zero-div, zero-mod, add-mul, mul-div_cancel, div-add-mod', div-eq_of_lt, mod-eq_of_lt, mul-pos, lt_of_le_of_lt, le_of_eq, le_trans, mul-le-mul_right, le_of_mul-le-mul_right, eq_of_mul-eq-mul_right, eq-zero-or-pos, lt_irrefl}
+use native.Mathlib.Nat.{mul_assoc, mul_comm, mul_right_comm, zero-mul, zero-div, zero-mod, add-mul, mul-div_cancel, div-add-mod', div-eq_of_lt, mod-eq_of_lt, mul-pos, lt_of_le_of_lt, le_of_eq, le_trans, mul-le-mul_right, le_of_mul-le-mul_right, eq_of_mul-eq-mul_right, eq-zero-or-pos, lt_irrefl}
 use mathlib.Core.Logic.{inl, inr}
 use native.Mathlib.Omega.{arith}
 use lib.IntN.{ℤ}
@@ -16,7 +16,8 @@ use borrow.Author.Tests.{eq-eqb, ne_eqb}
 use Rattle.elementary.specs.declared.split.Parts.{Parts}
 use Rattle.elementary.specs.declared.split.Parts.TheVariants.{Nan, Infinite, Zero, Finite}
 use Rattle.elementary.specs.declared.split.Whole.{Whole}
-use Rattle.elementary.specs.Split.{units, normalised, split_of, floor_size, floor_of, Within}
+use Rattle.elementary.specs.Figures.{Figures}
+use Rattle.elementary.specs.Split.{units, normalised, finite_parts, split_of, floor_size, floor_of, Within}
 use Rattle.elementary.proofs.Bits.{Held, held, in_units}
 
 -- bringing n to 53 digits loses nothing
@@ -35,15 +36,19 @@ normal_exact m e h =
     ∙ sym (mul_assoc (suc m) (2 ^ k) (2 ^ d)) in
     ap (λ (a : ℕ). a / 2 ^ d * 2 ^ d) x ∙ ap (λ (a : ℕ). a * 2 ^ d) (mul-div_cancel (suc m * 2 ^ k) (pow_pos d)) ∙ sym x
 
+-- equal parts have equal figures
+figures : {s t : Bool} {v w : Figures} → Finite s v ≡ Finite t w → v ≡ w
+figures p = cc
+
 -- the number is significand × 2 ^ digits / 2 ^ 1127
-pub split_value : (s : Bool) (m : ℕ) (e : ℤ) {t : Bool} {g d : ℕ} → T (fits binary64 (fin s (suc m) e)) → split_of (fin s (suc m) e) ≡ Finite t g d
+pub split_value : (s : Bool) (m : ℕ) (e : ℤ) {t : Bool} {g d : ℕ} → T (fits binary64 (fin s (suc m) e)) → split_of (fin s (suc m) e) ≡ finite_parts t g d
     → suc m * up e * 2 ^ 1127 ≡ g * 2 ^ d * down e
 unfolding split_of
 split_value s m e {t} {g} {d} h p =
     let u = in_units m e (held s m e h) in
     let n = units (suc m) e in
-    let a : normalised n (size n) ≡ g = cc in
-    let b : size n ≡ d = cc in
+    let a : normalised n (size n) ≡ g = ap (λ (v : Figures). v.significand) (figures p) in
+    let b : size n ≡ d = ap (λ (v : Figures). v.digits) (figures p) in
     sym (mul_assoc (suc m * up e) (2 ^ 1074) (2 ^ 53))
     ∙ ap (λ (z : ℕ). z * 2 ^ 53) u.exact
     ∙ mul_right_comm n (down e) (2 ^ 53)
@@ -87,12 +92,12 @@ size_within s m e k h w =
     size-le n (1075 + k) (lt_of_le_of_lt (le_of_mul-le-mul_right l (down_pos e)) (pow-lt {i = k + 1074} {j = 1075 + k} (omega arith)))
 
 -- so one of at most 2 ^ 51 has at most 1126
-pub few_digits : (s : Bool) (m : ℕ) (e : ℤ) {t : Bool} {g d : ℕ} → T (fits binary64 (fin s (suc m) e)) → split_of (fin s (suc m) e) ≡ Finite t g d
+pub few_digits : (s : Bool) (m : ℕ) (e : ℤ) {t : Bool} {g d : ℕ} → T (fits binary64 (fin s (suc m) e)) → split_of (fin s (suc m) e) ≡ finite_parts t g d
     → Within (2 ^ 51) (fin s (suc m) e) → d ≤ 1126
 unfolding split_of
-few_digits s m e {t} {g} {d} h p w = let b : size (units (suc m) e) ≡ d = cc in subst (λ (k : ℕ). k ≤ 1126) b (size_within s m e 51 h w)
+few_digits s m e {t} {g} {d} h p w = let b : size (units (suc m) e) ≡ d = ap (λ (v : Figures). v.digits) (figures p) in subst (λ (k : ℕ). k ≤ 1126) b (size_within s m e 51 h w)
 
-pub floor_parts_lem : (s : Bool) (m : ℕ) (e : ℤ) {t : Bool} {g d : ℕ} → T (fits binary64 (fin s (suc m) e)) → split_of (fin s (suc m) e) ≡ Finite t g d
+pub floor_parts_lem : (s : Bool) (m : ℕ) (e : ℤ) {t : Bool} {g d : ℕ} → T (fits binary64 (fin s (suc m) e)) → split_of (fin s (suc m) e) ≡ finite_parts t g d
     → d ≤ 1126 → floor_size s (suc m * up e) (down e) ≡ floor_size s g (2 ^ (1127 - d))
 floor_parts_lem s m e {t} {g} {d} h p l =
     let k = 1127 - d in
@@ -105,16 +110,12 @@ floor_parts_lem s m e {t} {g} {d} h p l =
 pub floor_below_one : (s : Bool) (g b : ℕ) → 0 < g → g < b → floor_size s g b ≡ floor_size s 1 2
 floor_below_one s g b p h = rw (div-eq_of_lt h, mod-eq_of_lt h, ne_eqb g 0 (λ (z : g ≡ 0). omega arith))
 
--- 1 << k
-pub one_shifted : (k : ℕ) → k < 64 → 1 * 2 ^ k % 2 ^ 64 ≡ 2 ^ k
-one_shifted k h = ap (λ (z : ℕ). z % 2 ^ 64) (one-mul (2 ^ k)) ∙ mod-eq_of_lt (pow-lt h)
-
 -- the floor of x, by the parts of x
 abbrev pub floor_parts : Parts → Whole
 floor_parts Nan = record { negative = false; size = 0 }
 floor_parts (Infinite s) = record { negative = false; size = 0 }
 floor_parts (Zero s) = record { negative = s; size = 0 }
-floor_parts (Finite s g d) = record { negative = s; size = floor_size s g (2 ^ (1127 - d)) }
+floor_parts (Finite s m) = record { negative = s; size = floor_size s m.significand (2 ^ (1127 - m.digits)) }
 
 no_size : (s : Bool) → floor_size s 0 1 ≡ 0
 no_size true = refl
@@ -127,7 +128,7 @@ floor_is (inf s) h w = refl
 floor_is (fin s zero e) h w = rw (zero-mul, zero-div, zero-mod, no_size s)
 floor_is (fin s (suc m) e) h w = rw (floor_parts_lem s m e h refl (few_digits s m e h refl w))
 
-pub few : (x : Float) {s : Bool} {g d : ℕ} → T (fits binary64 x) → split_of x ≡ Finite s g d → Within (2 ^ 51) x → d ≤ 1126
+pub few : (x : Float) {s : Bool} {g d : ℕ} → T (fits binary64 x) → split_of x ≡ finite_parts s g d → Within (2 ^ 51) x → d ≤ 1126
 unfolding split_of
 few nan h p w = absurd w
 few (inf s) h p w = absurd w

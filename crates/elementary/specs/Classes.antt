@@ -18,7 +18,7 @@ use Rattle.elementary.specs.declared.class.FloatClass.{FloatClass}
 use Rattle.elementary.specs.declared.class.FloatClass.TheVariants.{Zero, Subnormal, Normal, Infinity, NaN}
 use Rattle.elementary.specs.declared.split.Parts.{Parts}
 use Rattle.elementary.specs.declared.split.Parts.TheVariants as parts
-use Rattle.elementary.specs.Split.{normalised}
+use Rattle.elementary.specs.Split.{normalised, finite_parts}
 
 -- ---- the fields
 
@@ -67,7 +67,7 @@ value_class (fin s (suc m) e) = cond (ltb (suc m * up e * 2 ^ 1022) (down e)) Su
 
 abbrev pub split_class : FloatClass → ℕ → Parts
 split_class Zero b = parts.Zero (sign_bit b)
-split_class Subnormal b = let T = significand_field b in parts.Finite (sign_bit b) (normalised T (size T)) (size T)
-split_class Normal b = parts.Finite (sign_bit b) (2 ^ 52 + significand_field b) (exponent_field b + 52)
+split_class Subnormal b = let T = significand_field b in finite_parts (sign_bit b) (normalised T (size T)) (size T)
+split_class Normal b = finite_parts (sign_bit b) (2 ^ 52 + significand_field b) (exponent_field b + 52)
 split_class Infinity b = parts.Infinite (sign_bit b)
 split_class NaN b = parts.Nan

@@ -2,6 +2,7 @@
 -- floats, their order, when two are one, what a root is, and how far a float is from a fraction.
 pub mod Arithmetic
 pub mod Constants
+pub mod Figures
 pub mod Split
 pub mod Classes
 pub mod Root

@@ -18,30 +18,22 @@ units m e = m * up e * 2 ^ 1074 / down e
 abbrev pub normalised : ℕ → ℕ → ℕ
 normalised n d = n * 2 ^ 53 / 2 ^ d
 
+-- a finite number other than zero
+abbrev pub finite_parts : Bool → ℕ → ℕ → Parts
+finite_parts s g d = Finite s (record { significand = g; digits = d })
+
 unfoldable pub split_of : Float → Parts
 split_of nan = Nan
 split_of (inf s) = Infinite s
 split_of (fin s zero e) = Zero s
-split_of (fin s (suc m) e) = let n = units (suc m) e in Finite s (normalised n (size n)) (size n)
-
--- the significand and the digits of a finite number other than zero
-pub record Taken (significand digits : ℕ) : Type 0 where
-  pub full : 2 ^ 52 ≤ significand
-  pub narrow : significand < 2 ^ 53
-  pub some : 1 ≤ digits
-  pub few : digits ≤ 2098
+split_of (fin s (suc m) e) = let n = units (suc m) e in finite_parts s (normalised n (size n)) (size n)
 
 -- what SQRT and LN share: "NaN is the answer to a NaN argument, to a negative x", and +infinity gives itself
 abbrev pub positive_of : Parts → Positive
 positive_of Nan = TheVariants.Not nan
 positive_of (Infinite s) = TheVariants.Not (cond s nan (inf false))
 positive_of (Zero s) = TheVariants.Zero s
-positive_of (Finite s g d) = cond s (TheVariants.Not nan) (TheVariants.Finite g d)
-
-abbrev pub TakenIn : Positive → Type 0
-TakenIn (TheVariants.Not answer) = Unit
-TakenIn (TheVariants.Zero s) = Unit
-TakenIn (TheVariants.Finite g d) = Taken g d
+positive_of (Finite s m) = cond s (TheVariants.Not nan) (TheVariants.Finite m)
 
 -- ---- the greatest whole number that is at most x, as a sign and a size
 

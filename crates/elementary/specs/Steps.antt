@@ -29,7 +29,7 @@ sqrt_steps g d =
 abbrev pub sqrt_parts : Positive → Float
 sqrt_parts (Not answer) = answer
 sqrt_parts (Zero s) = fin s 0 (pos 0)
-sqrt_parts (Finite g d) = sqrt_steps g d
+sqrt_parts (Finite m) = sqrt_steps m.significand m.digits
 
 unfoldable pub SQRT : Float → Float
 SQRT x = sqrt_parts (positive_of (split_of x))
@@ -62,7 +62,7 @@ ln_steps g d =
 abbrev pub ln_parts : Positive → Float
 ln_parts (Not answer) = answer
 ln_parts (Zero s) = nan
-ln_parts (Finite g d) = ln_steps g d
+ln_parts (Finite m) = ln_steps m.significand m.digits
 
 unfoldable pub LN : Float → Float
 LN x = ln_parts (positive_of (split_of x))

@@ -6,7 +6,7 @@ ghost use Rattle.elementary.specs.Classes.{sign_bit, exponent_field, significand
 // 2^52: the bit that a normal number's significand has above its field.
 pub const IMPLICIT_BIT: u64 = 0x10_0000_0000_0000;
 
-#[derive(Clone, Copy)]
+#[derive(Clone, Copy, Debug, PartialEq, Eq)]
 pub enum FloatClass {
     Zero,
     Subnormal,

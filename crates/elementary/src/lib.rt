@@ -8,7 +8,7 @@ ghost use Rattle.std.specs.Prelude.{◌≡◌, false, ◌≤◌, ◌^◌};
 ghost use Rattle.std.specs.Float.{nan, inf, binary64};
 ghost use Rattle.std.specs.Float.Ieee.{to_bits, of_bits, minus};
 ghost use Rattle.std.specs.Float.Ieee.Scale.{finite};
-ghost use Rattle.elementary.specs.Split.{two^, signed, Taken, Within};
+ghost use Rattle.elementary.specs.Split.{two^, signed, Within};
 ghost use Rattle.elementary.specs.Arithmetic.{whole};
 ghost use Rattle.elementary.specs.Steps.{SQRT, LN, EXP, POW, SIN, ln_sum, sqrt_steps, ln_steps, exp_steps, pow_steps, exp_series, whole_of};
 ghost use Rattle.elementary.specs.Tests.{between, max_of};
@@ -18,7 +18,7 @@ mod split;
 mod whole_root;
 
 pub use class::{FloatClass, IMPLICIT_BIT, classify, exponent_field, sign_bit, significand_field};
-pub use split::{Parts, Whole};
+pub use split::{Magnitude, Parts, Whole};
 use split::{Positive, floor, positive_parts};
 use whole_root::nearest_root;
 
@@ -124,16 +124,15 @@ fn signed_power(negative: bool, n: u64) -> f64
     }
 }
 
-// The root of significand × 2^(digits - 1127).
-fn sqrt_steps(significand: u64, digits: u64) -> f64
-    requires { Taken significand digits }
-    ensures { result ≡ sqrt_steps significand digits }
+// The root of a magnitude.
+fn sqrt_steps(x: Magnitude) -> f64
+    ensures { result ≡ sqrt_steps x.significand x.digits }
 {
-    let half = (digits - 1) / 2;
-    if digits % 2 == 1 {
-        number(nearest_root(significand)) * power(half + 434)
+    let half = (x.digits - 1) / 2;
+    if x.digits % 2 == 1 {
+        number(nearest_root(x.significand)) * power(half + 434)
     } else {
-        number(nearest_root(2 * significand)) * power(half + 434)
+        number(nearest_root(2 * x.significand)) * power(half + 434)
     }
 }
 
@@ -143,10 +142,7 @@ pub fn sqrt(x: f64) -> f64
     match positive_parts(x) {
         Positive::Not(answer) => answer,
         Positive::Zero { negative } => { if negative { -0.0 } else { 0.0 } }
-        Positive::Finite {
-            significand,
-            digits,
-        } => sqrt_steps(significand, digits),
+        Positive::Finite(magnitude) => sqrt_steps(magnitude),
     }
 }
 
@@ -157,31 +153,23 @@ fn ln_sum(m: f64, digits: u64) -> f64
 {
     let t = (m - 1.0) / (m + 1.0);
     let u = t * t;
-    let p = 1.0 / 21.0;
-    let p = p * u + 1.0 / 19.0;
-    let p = p * u + 1.0 / 17.0;
-    let p = p * u + 1.0 / 15.0;
-    let p = p * u + 1.0 / 13.0;
-    let p = p * u + 1.0 / 11.0;
-    let p = p * u + 1.0 / 9.0;
-    let p = p * u + 1.0 / 7.0;
-    let p = p * u + 1.0 / 5.0;
-    let p = p * u + 1.0 / 3.0;
-    let p = p * u + 1.0;
+    let mut p = 1.0 / 21.0;
+    for k in [19.0, 17.0, 15.0, 13.0, 11.0, 9.0, 7.0, 5.0, 3.0, 1.0] {
+        p = p * u + 1.0 / k;
+    }
     let e = number(digits) - 1075.0;
     e * LN_2 + 2.0 * t * p
 }
 
-// LN of significand × 2^(digits - 1127).
-fn ln_steps(significand: u64, digits: u64) -> f64
-    requires { Taken significand digits }
-    ensures { result ≡ ln_steps significand digits }
+// LN of a magnitude.
+fn ln_steps(x: Magnitude) -> f64
+    ensures { result ≡ ln_steps x.significand x.digits }
 {
-    let m = number(significand) * ULP_OF_ONE;
+    let m = number(x.significand) * ULP_OF_ONE;
     if 1.4142135623730951 < m {
-        ln_sum(0.5 * m, digits + 1)
+        ln_sum(0.5 * m, x.digits + 1)
     } else {
-        ln_sum(m, digits)
+        ln_sum(m, x.digits)
     }
 }
 
@@ -191,10 +179,7 @@ pub fn ln(x: f64) -> f64
     match positive_parts(x) {
         Positive::Not(answer) => answer,
         Positive::Zero { negative: _ } => nan(),
-        Positive::Finite {
-            significand,
-            digits,
-        } => ln_steps(significand, digits),
+        Positive::Finite(magnitude) => ln_steps(magnitude),
     }
 }
 
@@ -202,20 +187,13 @@ pub fn ln(x: f64) -> f64
 fn exp_series(r: f64) -> f64
     ensures { result ≡ exp_series r }
 {
-    let p = 1.0;
-    let p = 1.0 + r * p / 13.0;
-    let p = 1.0 + r * p / 12.0;
-    let p = 1.0 + r * p / 11.0;
-    let p = 1.0 + r * p / 10.0;
-    let p = 1.0 + r * p / 9.0;
-    let p = 1.0 + r * p / 8.0;
-    let p = 1.0 + r * p / 7.0;
-    let p = 1.0 + r * p / 6.0;
-    let p = 1.0 + r * p / 5.0;
-    let p = 1.0 + r * p / 4.0;
-    let p = 1.0 + r * p / 3.0;
-    let p = 1.0 + r * p / 2.0;
-    1.0 + r * p / 1.0
+    let mut p = 1.0;
+    for j in [
+        13.0, 12.0, 11.0, 10.0, 9.0, 8.0, 7.0, 6.0, 5.0, 4.0, 3.0, 2.0, 1.0,
+    ] {
+        p = 1.0 + r * p / j;
+    }
+    p
 }
 
 // EXP's steps between its two bounds.
@@ -291,17 +269,11 @@ pub fn sin(x: f64) -> f64
     ensures { result ≡ SIN x }
 {
     let z = x * x;
-    let p = 1.0;
-    let p = 1.0 - z * p / 506.0;
-    let p = 1.0 - z * p / 420.0;
-    let p = 1.0 - z * p / 342.0;
-    let p = 1.0 - z * p / 272.0;
-    let p = 1.0 - z * p / 210.0;
-    let p = 1.0 - z * p / 156.0;
-    let p = 1.0 - z * p / 110.0;
-    let p = 1.0 - z * p / 72.0;
-    let p = 1.0 - z * p / 42.0;
-    let p = 1.0 - z * p / 20.0;
-    let p = 1.0 - z * p / 6.0;
+    let mut p = 1.0;
+    for k in [
+        506.0, 420.0, 342.0, 272.0, 210.0, 156.0, 110.0, 72.0, 42.0, 20.0, 6.0,
+    ] {
+        p = 1.0 - z * p / k;
+    }
     x * p
 }

@@ -1,15 +1,35 @@
 // A float taken apart: its sign, significand and digits, and what `sqrt`, `ln` and `exp` need of them.
 ghost use Rattle.std.specs.Prelude.{◌≡◌, ◌-◌, ◌≤◌, ◌^◌};
-ghost use Rattle.elementary.specs.Split.{split_of, positive_of, floor_of, Taken, TakenIn, Within, floor_size};
+ghost use Rattle.elementary.specs.Split.{split_of, positive_of, floor_of, Within, floor_size};
 
 use crate::class::{
     FloatClass, IMPLICIT_BIT, classify, exponent_field, sign_bit, significand_field,
 };
 use crate::{infinity, nan};
+use std::marker::Model;
 
-// A float taken apart. A finite number other than zero is significand × 2^(digits - 1127), and its
-// significand has 53 binary digits, subnormal numbers included.
-#[derive(Clone, Copy)]
+// The size of a finite number other than zero, significand × 2^(digits - 1127). The significand has 53
+// binary digits, subnormal numbers included: `Taken` holds of every magnitude.
+#[derive(Clone, Copy, Debug, PartialEq, Eq)]
+pub struct Magnitude {
+    pub significand: u64,
+    pub digits: u64,
+}
+
+impl Model for Magnitude {
+    ghost use Rattle.elementary.specs.Figures.{Figures, Taken};
+
+    ghost Value = { Figures };
+
+    ghost view = { λ m. record { significand = m.significand; digits = m.digits } };
+
+    ghost invariant = { λ m. Taken m.significand m.digits };
+
+    ghost inverse = { λ v. record { significand = v.significand; digits = v.digits } };
+}
+
+// A float taken apart.
+#[derive(Clone, Copy, Debug, PartialEq, Eq)]
 pub enum Parts {
     Nan,
     Infinite {
@@ -20,22 +40,21 @@ pub enum Parts {
     },
     Finite {
         negative: bool,
-        significand: u64,
-        digits: u64,
+        magnitude: Magnitude,
     },
 }
 
 // What `sqrt` and `ln` go by: the answer that they share where x is neither a zero nor a positive finite number, a zero, or the
-// number taken apart.
-#[derive(Clone, Copy)]
+// number's magnitude.
+#[derive(Clone, Copy, Debug, PartialEq)]
 pub(crate) enum Positive {
     Not(f64),
     Zero { negative: bool },
-    Finite { significand: u64, digits: u64 },
+    Finite(Magnitude),
 }
 
-// A whole number as a sign and a size.
-#[derive(Clone, Copy)]
+// A whole number as a sign and a size. An i64 has no -0, and the floor of -0 is -0.
+#[derive(Clone, Copy, Debug, PartialEq, Eq)]
 pub struct Whole {
     pub negative: bool,
     pub size: u64,
@@ -58,14 +77,18 @@ fn split(x: f64) -> Parts
             let shift = u64::leading_zeros(field) - 11;
             Parts::Finite {
                 negative,
-                significand: field << shift,
-                digits: 53 - shift as u64,
+                magnitude: Magnitude {
+                    significand: field << shift,
+                    digits: 53 - shift as u64,
+                },
             }
         }
         FloatClass::Normal => Parts::Finite {
             negative,
-            significand: IMPLICIT_BIT + field,
-            digits: exponent_field(bits) + 52,
+            magnitude: Magnitude {
+                significand: IMPLICIT_BIT + field,
+                digits: exponent_field(bits) + 52,
+            },
         },
         FloatClass::Infinity => Parts::Infinite { negative },
         FloatClass::NaN => Parts::Nan,
@@ -74,10 +97,9 @@ fn split(x: f64) -> Parts
 
 // A NaN for a NaN and a number below 0, and +infinity for itself.
 pub(crate) fn positive_parts(x: f64) -> Positive
-    ensures { (result ≡ positive_of (split_of x)) × TakenIn result }
+    ensures { result ≡ positive_of (split_of x) }
 {
-    let parts = split(x);
-    match parts {
+    match split(x) {
         Parts::Nan => Positive::Not(nan()),
         Parts::Infinite { negative } => {
             if negative {
@@ -89,16 +111,12 @@ pub(crate) fn positive_parts(x: f64) -> Positive
         Parts::Zero { negative } => Positive::Zero { negative },
         Parts::Finite {
             negative,
-            significand,
-            digits,
+            magnitude,
         } => {
             if negative {
                 Positive::Not(nan())
             } else {
-                Positive::Finite {
-                    significand,
-                    digits,
-                }
+                Positive::Finite(magnitude)
             }
         }
     }
@@ -109,41 +127,34 @@ pub(crate) fn floor(x: f64) -> Whole
     requires { Within (2 ^ 51) x }
     ensures { result ≡ floor_of x }
 {
-    let parts = split(x);
-    match parts {
-        Parts::Nan => Whole {
-            negative: false,
-            size: 0,
-        },
-        Parts::Infinite { negative: _ } => Whole {
+    match split(x) {
+        Parts::Nan | Parts::Infinite { negative: _ } => Whole {
             negative: false,
             size: 0,
         },
         Parts::Zero { negative } => Whole { negative, size: 0 },
         Parts::Finite {
             negative,
-            significand,
-            digits,
+            magnitude,
         } => Whole {
             negative,
-            size: floor_size(negative, significand, digits),
+            size: floor_size(negative, magnitude),
         },
     }
 }
 
-// The size of that number, for significand × 2^(digits - 1127): its whole part, and one more for a
-// negative number with a fraction.
-fn floor_size(negative: bool, significand: u64, digits: u64) -> u64
-    requires { Taken significand digits × (digits ≤ 1126) }
-    ensures { result ≡ floor_size negative significand (2 ^ (1127 - digits)) }
+// The size of that number: the magnitude's whole part, and one more for a negative number with a fraction.
+fn floor_size(negative: bool, magnitude: Magnitude) -> u64
+    requires { magnitude.digits ≤ 1126 }
+    ensures { result ≡ floor_size negative magnitude.significand (2 ^ (1127 - magnitude.digits)) }
 {
-    if digits <= 1074 {
+    if magnitude.digits <= 1074 {
         if negative { 1 } else { 0 }
     } else {
-        let shift = 1127 - digits;
-        let whole = significand >> shift;
+        let shift = 1127 - magnitude.digits;
+        let whole = magnitude.significand >> shift;
         if negative {
-            if significand % (1u64 << shift) == 0 {
+            if magnitude.significand % (1u64 << shift) == 0 {
                 whole
             } else {
                 whole + 1

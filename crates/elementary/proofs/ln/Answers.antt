@@ -1,20 +1,15 @@
 -- `elementary::ln` meets its contract: the steps of a positive number's parts, and otherwise the definition's answer.
-use mathlib.Core.Path.{subst}
-use Rattle.elementary.specs.Split.{TakenIn}
 use Rattle.elementary.specs.Steps.{LN}
 use Rattle.elementary.proofs.ln.Goals as goal
 
-pub ln_steps-requires : goal.ln_steps-requires
-ln_steps-requires c = subst TakenIn c.in-Finite.is c.positive_parts.ensures.1
-
 pub returns-in-Not : goal.returns-in-Not
 unfolding LN
-returns-in-Not c = rw (← c.positive_parts.ensures.0, c.in-Not.is)
+returns-in-Not c = rw (← c.positive_parts.ensures, c.in-Not.is)
 
 pub returns-in-Zero : goal.returns-in-Zero
 unfolding LN
-returns-in-Zero c = rw (← c.positive_parts.ensures.0, c.in-Zero.is) c.nan.ensures
+returns-in-Zero c = rw (← c.positive_parts.ensures, c.in-Zero.is) c.nan.ensures
 
 pub returns-in-Finite : goal.returns-in-Finite
 unfolding LN
-returns-in-Finite c = rw (← c.positive_parts.ensures.0, c.in-Finite.is) c.ln_steps.ensures
+returns-in-Finite c = rw (← c.positive_parts.ensures, c.in-Finite.is) c.ln_steps.ensures

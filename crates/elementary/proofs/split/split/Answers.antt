@@ -8,7 +8,7 @@ use Rattle.elementary.specs.declared.class.FloatClass.{FloatClass}
 use Rattle.elementary.specs.declared.class.FloatClass.TheVariants.{Zero, Subnormal, Normal, Infinity, NaN}
 use Rattle.elementary.specs.Classes.{InClass, split_class}
 use Rattle.elementary.specs.declared.split.Parts.TheVariants as parts-of
-use Rattle.elementary.specs.Split.{normalised, split_of}
+use Rattle.elementary.specs.Split.{normalised, finite_parts, split_of}
 use Rattle.elementary.proofs.Bits.{split_class_lem, room, Room}
 use Rattle.elementary.proofs.Classes.{field_narrow}
 use Rattle.elementary.proofs.Floats.{is_nan_lem, not_nan, true_t}
@@ -30,7 +30,7 @@ holds x r k h named = subst (λ (k : FloatClass). InClass k (to_bits binary64 x)
 parts : (c : After-classify) (k : FloatClass) → c.classify.result ≡ k → split_of c.args.x ≡ split_class k (to_bits binary64 c.args.x)
 parts c k named = split_class_lem c.args.x (true_t c.well_formed.0.1) k (holds c.args.x _ k c.classify.ensures named)
 
-finite : {s s' : Bool} {g g' d d' : ℕ} → s ≡ s' → g ≡ g' → d ≡ d' → parts-of.Finite s g d ≡ parts-of.Finite s' g' d'
+finite : {s s' : Bool} {g g' d d' : ℕ} → s ≡ s' → g ≡ g' → d ≡ d' → finite_parts s g d ≡ finite_parts s' g' d'
 finite p q r = rw (p, q, r)
 
 pub returns-in-Zero : goal.returns-in-Zero
@@ -43,29 +43,14 @@ field_room c =
 pub overflow_sub-shift : goal.overflow_sub-shift
 overflow_sub-shift c = let r = field_room (goal.at.overflow_sub-shift c).In-Subnormal in omega arith
 
-pub overflow_cast-result : goal.overflow_cast-result
-overflow_cast-result c = let r = field_room (goal.at.overflow_cast-result c).In-Subnormal in omega arith
-
-pub overflow_shl-result : goal.overflow_shl-result
-overflow_shl-result c = let r = field_room (goal.at.overflow_shl-result c).In-Subnormal in omega arith
-
-pub overflow_cast-result-in-Subnormal : goal.overflow_cast-result-in-Subnormal
-overflow_cast-result-in-Subnormal c = let r = field_room (goal.at.overflow_cast-result-in-Subnormal c).In-Subnormal in omega arith
-
-pub overflow_sub-result : goal.overflow_sub-result
-overflow_sub-result c = let r = field_room (goal.at.overflow_sub-result c).In-Subnormal in omega arith
+pub invariant_of-result : goal.invariant_of-result
+invariant_of-result c = let r = field_room (goal.at.invariant_of-result c).In-Subnormal in rw (r.kept, r.digits) r.taken
 
 pub returns-in-Subnormal : goal.returns-in-Subnormal
 returns-in-Subnormal c =
     let r = field_room (goal.at.returns-in-Subnormal c).In-Subnormal in
     let t = c.significand_field-field.ensures in
     finite c.sign_bit-negative.ensures (r.kept ∙ ap (λ (t : ℕ). normalised t (size t)) t) (r.digits ∙ ap size t) ∙ sym (parts (goal.at.returns-in-Subnormal c).After-classify Subnormal c.in-Subnormal.is)
-
-pub overflow_add-result : goal.overflow_add-result
-overflow_add-result c = let h = field_narrow (to_bits binary64 c.args.x) in omega (arith, c.significand_field-field.ensures, h)
-
-pub overflow_add-result-in-Normal : goal.overflow_add-result-in-Normal
-overflow_add-result-in-Normal c = let h = holds c.args.x _ Normal c.classify.ensures c.in-Normal.is in omega (arith, c.exponent_field.ensures, h.1)
 
 pub returns-in-Normal : goal.returns-in-Normal
 returns-in-Normal c =

@@ -1,10 +1,9 @@
--- `elementary::whole_root::guess` meets its contract: no step of it can go wrong, and what it answers is 0 or from 2 ^ 52 - 1 to 2 ^ 53 - 2.
-use Prim.Native.Nat.{◌^◌, ◌<◌}
+-- `elementary::whole_root::guess` meets its contract: no step of it can go wrong, and a guess is from 2 ^ 52 - 1 to 2 ^ 53 - 2.
+use Prim.Native.Nat.{◌<◌}
 use native.Mathlib.Omega.{arith}
-use Rattle.elementary.proofs.Classes.{field_narrow}
 use Rattle.elementary.proofs.Floats.{nan_below, not_nan}
 use Rattle.elementary.proofs.whole_root.guess.Goals as goal
-use Rattle.elementary.proofs.whole_root.guess.Goals.{then-w-lt9007199254740992, else-w-lt9007199254740992, After-significand_field, Joined-w-lt9007199254740992}
+use Rattle.elementary.proofs.whole_root.guess.Goals.{then-w-lt9007199254740992, else-w-lt9007199254740992, Joined-w-lt9007199254740992}
 
 -- the bits of x, and those of y: far below infinity's
 bits_bound : (c : Joined-w-lt9007199254740992) → c.if-w-lt9007199254740992.bits < 0x4020_0000_0000_0000
@@ -13,20 +12,8 @@ bits_bound c = elim c.if-w-lt9007199254740992.branch [ then-w-lt9007199254740992
 pub float_from_bits-x : goal.float_from_bits-x
 float_from_bits-x c = let h = bits_bound (goal.at.float_from_bits-x c).Joined-w-lt9007199254740992 in nan_below _ (omega arith)
 
-pub overflow_sub-y : goal.overflow_sub-y
-overflow_sub-y c = let h = bits_bound (goal.at.overflow_sub-y c).Joined-w-lt9007199254740992 in omega arith
-
 pub float_from_bits-y : goal.float_from_bits-y
 float_from_bits-y c = nan_below _ (omega arith)
 
 pub float_to_bits-found : goal.float_to_bits-found
 float_to_bits-found c = not_nan _ c.if-root.false
-
-narrow : (c : After-significand_field) → c.significand_field.result < 2 ^ 52
-narrow c = rw c.significand_field.ensures (field_narrow _)
-
-pub overflow_add-result : goal.overflow_add-result
-overflow_add-result c = let h = narrow (goal.at.overflow_add-result c).After-significand_field in omega arith
-
-pub returns-in-Normal : goal.returns-in-Normal
-returns-in-Normal c = let h = narrow (goal.at.returns-in-Normal c).After-significand_field in omega arith

@@ -5,7 +5,7 @@ use native.Mathlib.Nat.{lt_of_lt_of_le, pow-suc, mul_assoc}
 use lib.Pow.{pow_mono}
 use native.Mathlib.Omega.{arith}
 use native.Mathlib.Numerals.{add-one}
-use Rattle.elementary.proofs.Root.{Rooted, at_start, next_even, next_odd, nearest_up, nearest_down}
+use Rattle.elementary.proofs.Root.{Rooted, at_start, next_even, next_odd}
 use Rattle.elementary.proofs.whole_root.root_by_digits.Invariants.{Read}
 use Rattle.elementary.proofs.whole_root.root_by_digits.Goals as goal
 use Rattle.elementary.proofs.whole_root.root_by_digits.Goals.{then-read-root, else-read-root}
@@ -42,32 +42,17 @@ overflow_mul-read c = let s = small c.loop-digit.invariant in omega arith
 pub overflow_add-read : goal.overflow_add-read
 overflow_add-read c = let s = small c.loop-digit.invariant in omega arith
 
-pub overflow_mul-rest-in-loop-digit : goal.overflow_mul-rest-in-loop-digit
-overflow_mul-rest-in-loop-digit c = let s = small c.loop-digit.invariant in omega arith
-
 pub overflow_mul-root : goal.overflow_mul-root
 overflow_mul-root c = let s = small c.loop-digit.invariant in omega arith
 
 pub overflow_add-root : goal.overflow_add-root
 overflow_add-root c = let s = small c.loop-digit.invariant in omega arith
 
-pub overflow_mul-root-then-read-root : goal.overflow_mul-root-then-read-root
-overflow_mul-root-then-read-root c = let s = small c.loop-digit.invariant in omega arith
-
 pub overflow_mul-left : goal.overflow_mul-left
 overflow_mul-left c = let s = small c.loop-digit.invariant in omega arith
 
 pub overflow_add-left : goal.overflow_add-left
 overflow_add-left c = let s = small c.loop-digit.invariant in omega arith
-
-pub overflow_sub-left : goal.overflow_sub-left
-overflow_sub-left c = let s = small c.loop-digit.invariant in omega arith
-
-pub overflow_mul-root-else-read-root : goal.overflow_mul-root-else-read-root
-overflow_mul-root-else-read-root c = let s = small c.loop-digit.invariant in omega arith
-
-pub overflow_add-root-else-read-root : goal.overflow_add-root-else-read-root
-overflow_add-root-else-read-root c = let s = small c.loop-digit.invariant in omega arith
 
 pub loop-digit-preserved : goal.loop-digit-preserved
 loop-digit-preserved c =
@@ -79,12 +64,3 @@ loop-digit-preserved c =
       | then-read-root w ↦ rw (w.root-is, w.left-is) (turn r t (next_even at.digit r.n at.root at.left (at.rest / 2 ^ 62) r.rooted read w.if-read-root.true))
       | else-read-root w ↦ rw (w.root-is, w.left-is) (turn r t (next_odd at.digit r.n at.root at.left (at.rest / 2 ^ 62) r.rooted read w.if-read-root.false))
     ]
-
-pub overflow_add-result : goal.overflow_add-result
-overflow_add-result c = let s = small c.loop-digit.invariant in omega arith
-
-pub returns-then-root-left : goal.returns-then-root-left
-returns-then-root-left c = nearest_up 53 _ _ _ (at_end c.loop-digit.invariant c.loop-digit-test.false) c.if-root-left.true
-
-pub returns-else-root-left : goal.returns-else-root-left
-returns-else-root-left c = nearest_down 53 _ _ _ (at_end c.loop-digit.invariant c.loop-digit-test.false) c.if-root-left.false
