@@ -1,5 +1,6 @@
 -- A sheet's words stand for that sheet: `read_back`. So a call that is given the words which the call before it left works on the sheet which that call
 -- handed back. The one hypothesis is what the types of the code say: the arrays are as long as they are, and each number is a binary64 number.
+use Rattle.std.specs.Prelude.{Some, Option, None}
 use mathlib.Core.Path.{◌≡◌, refl, sym, ap, ◌∙◌, subst}
 use mathlib.Core.List.{List, [], ◌∷◌, ◌++◌, append_assoc, append-nil}
 use Prim.Native.Nat.{ℕ, ◌+◌, ◌-◌}
@@ -13,8 +14,6 @@ use Rattle.shapes.specs.declared.NoseShape.{NoseShape}
 use Rattle.shapes.specs.declared.NoseShape.TheVariants.{Conical, Ogive, Elliptical, PowerSeries, ParabolicSeries, Haack}
 use Rattle.shapes.specs.Numbers.{number_of_shape, shape_of, parameter_of}
 use Rattle.elementary.specs.Arithmetic.{bits}
-use Rattle.sheet_data.specs.declared.PartRoughness.{PartRoughness}
-use Rattle.sheet_data.specs.declared.PartRoughness.TheVariants.{OfSettings, Own}
 use Rattle.sheet_data.specs.declared.Part.{Part}
 use Rattle.sheet_data.specs.declared.Sheet.{Sheet}
 use Rattle.sheet_data.specs.Layout.{most_columns, most_parts}
@@ -31,9 +30,9 @@ abbrev Each : {A : Type 0} → (A → Type 0) → List A → Type 0
 Each ok [] = Unit
 Each ok (x ∷ xs) = ok x × Each ok xs
 
-abbrev OwnHeld : PartRoughness → Type 0
-OwnHeld OfSettings = Unit
-OwnHeld (Own x) = Number x
+abbrev OwnHeld : Option Float → Type 0
+OwnHeld None = Unit
+OwnHeld (Some x) = Number x
 
 pub record PartHeld (p : Part) : Type 0 where
   pub parameter : Number (parameter_of p.shape)
@@ -85,9 +84,9 @@ shape_back (PowerSeries x) h = ap PowerSeries (number_back x h)
 shape_back (ParabolicSeries x) h = ap ParabolicSeries (number_back x h)
 shape_back (Haack x) h = ap Haack (number_back x h)
 
-own_back : (k : PartRoughness) → OwnHeld k → own_of (own_flag k) (bits (own_bits k)) ≡ k
-own_back OfSettings h = refl
-own_back (Own x) h = ap Own (number_back x h)
+own_back : (k : Option Float) → OwnHeld k → own_of (own_flag k) (bits (own_bits k)) ≡ k
+own_back None h = refl
+own_back (Some x) h = ap Some (number_back x h)
 
 part_back : (p : Part) (rest : List ℕ) → PartHeld p → (part_of (part_words p ++ rest) ≡ p) × (drop part_word_count (part_words p ++ rest) ≡ rest)
 part_back p rest h =

@@ -1,5 +1,8 @@
 -- What each function of the library answers: a status, and what it leaves in the memory that it was lent.
-use Rattle.std.specs.Prelude.{◌≡◌, Bool, true, false, cond, List, [], ◌∷◌, ℕ, ◌+◌, ◌*◌, length, get_or, drop, eqb, leb, ltb, Float}
+use Rattle.std.specs.Prelude.{◌≡◌, Bool, true, false, cond, List, [], ◌∷◌, ℕ, ◌+◌, ◌*◌, length, get_or, drop, eqb, leb, ltb, Float, Ok, Err, Option, Some, None}
+use Rattle.aero_error.specs.Checks.{◌then◌, unless, ◌and_then◌, Check, Coefficient}
+use Rattle.nose_drag.specs.Curves.{step_curve, new_curve, coefficient_of, Curve}
+use Rattle.walk.specs.Answers.{Walked, Answered}
 use Rattle.std.proofs.lemmas.List.Edits.{sets}
 use Rattle.std.specs.Float.Ieee.{to_bits}
 use Rattle.std.specs.Float.{binary64}
@@ -11,11 +14,6 @@ use Rattle.elementary.specs.Steps.{SQRT, LN, EXP, POW, SIN}
 use Rattle.aero_error.specs.declared.AeroError.{AeroError}
 use Rattle.aero_error.specs.declared.AeroError.TheVariants.{Broken}
 use Rattle.aero_error.specs.declared.Rule.TheVariants.{ReservedBit, TooFewCells}
-use Rattle.aero_error.specs.declared.Check.{Check}
-use Rattle.aero_error.specs.declared.Check.TheVariants.{Passed, Failed}
-use Rattle.aero_error.specs.declared.Coefficient.{Coefficient}
-use Rattle.aero_error.specs.declared.Coefficient.TheVariants.{Value, Refused}
-use Rattle.aero_error.specs.Checks.{◌then◌, unless, ◌and_then◌}
 use Rattle.aero_error.specs.Told.{told_of}
 use Rattle.drag.specs.Friction.{mach_checked, machs_test, critical_reynolds, incompressible_skin_friction, skin_friction_coefficient, body_friction_form_factor}
 use Rattle.drag.specs.Pressure.{stagnation_ratio, stagnation_pressure_ratio, stagnation_drag_coefficient, base_drag_coefficient, joint_pressure_drag_coefficient, boattail_factor}
@@ -23,24 +21,15 @@ use Rattle.shapes.specs.Numbers.{shape_of, parameter_of, von_karman, lv_haack}
 use Rattle.stoney.specs.Tables.{nose_at}
 use Rattle.stoney.specs.Points.{mach_at, drag_at, range_of, first_mach}
 use Rattle.stoney.specs.Lookup.{value_and_slope}
-use Rattle.walk.specs.declared.Walked.{Walked}
-use Rattle.walk.specs.declared.Walked.TheVariants.{Compared, Refused as NotWalked}
-use Rattle.walk.specs.Answers.{Answered}
 use Rattle.nose_drag.specs.declared.curve.PressureDragCurve.{PressureDragCurve}
-use Rattle.nose_drag.specs.declared.builder.Curve.{Curve}
-use Rattle.nose_drag.specs.declared.builder.Curve.TheVariants.{Built, Refused as NotBuilt}
 use Rattle.nose_drag.specs.Below.{subsonic_pressure_drag_coefficient}
 use Rattle.nose_drag.specs.Methods.{ogive_pressure_drag_factor, fineness_scaled_pressure_drag, ellipsoid_subsonic_pressure_drag}
-use Rattle.nose_drag.specs.Curves.{step_curve, new_curve, coefficient_of}
 use Rattle.sheet_data.specs.declared.Sheet.{Sheet}
-use Rattle.drag_sheet.specs.declared.Answer.{Answer}
 use Rattle.sheet_data.specs.Layout.{most_parts}
-use Rattle.drag_sheet.specs.Calls.{Call, Called, Opened}
-use Rattle.cards.specs.declared.PartRead.{PartRead}
-use Rattle.cards.specs.declared.PartRead.TheVariants.{Read, Refused as NoPart}
-use Rattle.cards.specs.declared.SettingsRead.{SettingsRead}
-use Rattle.cobalnis.specs.declared.formulas.Formula.{Formula}
-use Rattle.cobalnis.specs.declared.formulas.Formula.TheVariants.{Is, Unknown}
+use Rattle.drag_sheet.specs.Calls.{Answer, Call, Called, Opened}
+use Rattle.cards.specs.Fields.{Read}
+use Rattle.sheet_data.specs.declared.Part.{Part}
+use Rattle.sheet_data.specs.declared.Settings.{Settings}
 use Rattle.cobalnis.specs.Words.{first_part, spread, part_words, settings_of, settings_words, sheet_of, sheet_words, shapes_known}
 
 -- ---- the status and the bits of an answer
@@ -54,57 +43,61 @@ abbrev pub no_such : ℕ
 no_such = 65535
 
 abbrev pub answer_status : Coefficient → ℕ
-answer_status (Value v) = 0
-answer_status (Refused e) = status_of e
+answer_status (Ok v) = 0
+answer_status (Err e) = status_of e
 
 -- the bits of the value, or of the value refused
 abbrev pub answer_bits : Coefficient → ℕ
-answer_bits (Value v) = to_bits binary64 v
-answer_bits (Refused e) = to_bits binary64 (told_of e).value
+answer_bits (Ok v) = to_bits binary64 v
+answer_bits (Err e) = to_bits binary64 (told_of e).value
 
 -- a test that passes answers +0
 abbrev pub tested : Check → Coefficient
-tested check = check and_then Value 0·0
+tested check = check and_then Ok 0·0
 
 -- ---- formulas, by their numbers from 0; the last two are the parameters of the Haack shapes that have names
 
+-- what a number names
+abbrev pub Formula : Type 0
+Formula = Option Coefficient
+
 abbrev pub formulas : Float → Float → Float → Float → Float → List Formula
 formulas a b c d e =
-    Is (Value (SQRT a))
-    ∷ Is (Value (LN a))
-    ∷ Is (Value (EXP a))
-    ∷ Is (Value (POW a b))
-    ∷ Is (Value (SIN a))
-    ∷ Is (tested (mach_checked a))
-    ∷ Is (critical_reynolds a)
-    ∷ Is (incompressible_skin_friction a b)
-    ∷ Is (skin_friction_coefficient a b c)
-    ∷ Is (body_friction_form_factor a)
-    ∷ Is (stagnation_pressure_ratio a)
-    ∷ Is (stagnation_drag_coefficient a)
-    ∷ Is (base_drag_coefficient a)
-    ∷ Is (joint_pressure_drag_coefficient a)
-    ∷ Is (boattail_factor a b c)
-    ∷ Is (subsonic_pressure_drag_coefficient a b c d e)
-    ∷ Is (ogive_pressure_drag_factor a)
-    ∷ Is (fineness_scaled_pressure_drag a b c)
-    ∷ Is (ellipsoid_subsonic_pressure_drag a b)
-    ∷ Is (Value (stagnation_ratio a))
-    ∷ Is (Value (parameter_of von_karman))
-    ∷ Is (Value (parameter_of lv_haack))
+    Some (Ok (SQRT a))
+    ∷ Some (Ok (LN a))
+    ∷ Some (Ok (EXP a))
+    ∷ Some (Ok (POW a b))
+    ∷ Some (Ok (SIN a))
+    ∷ Some (tested (mach_checked a))
+    ∷ Some (critical_reynolds a)
+    ∷ Some (incompressible_skin_friction a b)
+    ∷ Some (skin_friction_coefficient a b c)
+    ∷ Some (body_friction_form_factor a)
+    ∷ Some (stagnation_pressure_ratio a)
+    ∷ Some (stagnation_drag_coefficient a)
+    ∷ Some (base_drag_coefficient a)
+    ∷ Some (joint_pressure_drag_coefficient a)
+    ∷ Some (boattail_factor a b c)
+    ∷ Some (subsonic_pressure_drag_coefficient a b c d e)
+    ∷ Some (ogive_pressure_drag_factor a)
+    ∷ Some (fineness_scaled_pressure_drag a b c)
+    ∷ Some (ellipsoid_subsonic_pressure_drag a b)
+    ∷ Some (Ok (stagnation_ratio a))
+    ∷ Some (Ok (parameter_of von_karman))
+    ∷ Some (Ok (parameter_of lv_haack))
     ∷ []
 
 unfoldable pub formula_of : ℕ → Float → Float → Float → Float → Float → Formula
-formula_of which a b c d e = get_or (formulas a b c d e) which Unknown
+formula_of which a b c d e = get_or (formulas a b c d e) which None
 
 abbrev pub formula_status : Formula → ℕ
-formula_status (Is c) = answer_status c
-formula_status Unknown = no_such
+formula_status (Some c) = answer_status c
+formula_status None = no_such
 
 -- the lent word, which stays as it was where the number names no formula
 abbrev pub formula_bits : Formula → ℕ → ℕ
-formula_bits (Is c) before = answer_bits c
-formula_bits Unknown before = before
+formula_bits (Some c) before = answer_bits c
+formula_bits None before = before
 
 -- whether a number is one of the codes 1 to 22
 abbrev pub is_code : ℕ → Bool
@@ -154,8 +147,8 @@ lookup_words nose M before =
 
 -- the answer of `walk`'s own call: accepted, the count is handed out; refused, it is as it was, and the value refused is handed out
 abbrev pub WalkShown : Walked → ℕ → ℕ → ℕ → ℕ → Type 0
-WalkShown (Compared n) r before compared bits' = (r ≡ 0) × (compared ≡ n) × (bits' ≡ 0)
-WalkShown (NotWalked e) r before compared bits' = (r ≡ status_of e) × (compared ≡ before) × (bits' ≡ to_bits binary64 (told_of e).value)
+WalkShown (Ok n) r before compared bits' = (r ≡ 0) × (compared ≡ n) × (bits' ≡ 0)
+WalkShown (Err e) r before compared bits' = (r ≡ status_of e) × (compared ≡ before) × (bits' ≡ to_bits binary64 (told_of e).value)
 
 pub record NoseWalked (nose : ℕ) (Ms xs : List Float) (before r : ℕ) (ys : List Float) (compared bits' : ℕ) : Type 0 where
   pub answer : Walked
@@ -171,7 +164,7 @@ WalkDone false nose Ms xs before bits r ys compared bits' = (r ≡ no_such) × (
 
 -- the curve of a shape's number; 6 is the step
 abbrev pub curve_from : ℕ → Float → Float → Float → Curve
-curve_from shape parameter fineness angle = cond (eqb shape 6) (Built step_curve) (new_curve (shape_of shape parameter) fineness angle)
+curve_from shape parameter fineness angle = cond (eqb shape 6) (Ok step_curve) (new_curve (shape_of shape parameter) fineness angle)
 
 abbrev pub coefficient_bits : PressureDragCurve → Float → ℕ
 coefficient_bits curve M = answer_bits (coefficient_of curve M)
@@ -185,12 +178,12 @@ about value curve = to_bits binary64 value ∷ to_bits binary64 curve.rest ∷ t
 
 -- a curve at these Machs: the status r, the lent words before (xs) and after (ys), and what is said about the curve
 abbrev pub ReadAt : Check → PressureDragCurve → List Float → List ℕ → ℕ → List ℕ → List ℕ → Type 0
-ReadAt Passed curve machs xs r ys said = (r ≡ 0) × (ys ≡ sets xs 0 (spread (coefficient_word curve) machs)) × (said ≡ about 0·0 curve)
-ReadAt (Failed e) curve machs xs r ys said = (r ≡ status_of e) × (ys ≡ xs) × (said ≡ about (told_of e).value curve)
+ReadAt (Ok _) curve machs xs r ys said = (r ≡ 0) × (ys ≡ sets xs 0 (spread (coefficient_word curve) machs)) × (said ≡ about 0·0 curve)
+ReadAt (Err e) curve machs xs r ys said = (r ≡ status_of e) × (ys ≡ xs) × (said ≡ about (told_of e).value curve)
 
 abbrev pub CurveDone : Curve → List Float → List ℕ → ℕ → List ℕ → List ℕ → Type 0
-CurveDone (NotBuilt e) machs xs r ys said = (r ≡ status_of e) × (ys ≡ xs) × (said ≡ to_bits binary64 (told_of e).value ∷ 0 ∷ 0 ∷ [])
-CurveDone (Built curve) machs xs r ys said = ReadAt (unless (ltb (length xs) (length machs)) TooFewCells then machs_test machs) curve machs xs r ys said
+CurveDone (Err e) machs xs r ys said = (r ≡ status_of e) × (ys ≡ xs) × (said ≡ to_bits binary64 (told_of e).value ∷ 0 ∷ 0 ∷ [])
+CurveDone (Ok curve) machs xs r ys said = ReadAt (unless (ltb (length xs) (length machs)) TooFewCells then machs_test machs) curve machs xs r ys said
 
 -- a shape's number above 6 names none
 abbrev pub CurveAnswered : Bool → Curve → List Float → List ℕ → List ℕ → ℕ → List ℕ → List ℕ → Type 0
@@ -201,8 +194,8 @@ CurveAnswered true curve machs xs before r ys said = (r ≡ no_such) × (ys ≡ 
 
 -- accepted, the words are those of the sheet handed back; refused, they are as they were, and the value refused is handed out
 abbrev pub Shown : Check → Sheet → List ℕ → ℕ → List ℕ → ℕ → Type 0
-Shown Passed sheet ws r ws' bits' = (r ≡ 0) × (ws' ≡ sheet_words sheet) × (bits' ≡ 0)
-Shown (Failed e) sheet ws r ws' bits' = (r ≡ status_of e) × (ws' ≡ ws) × (bits' ≡ to_bits binary64 (told_of e).value)
+Shown (Ok _) sheet ws r ws' bits' = (r ≡ 0) × (ws' ≡ sheet_words sheet) × (bits' ≡ 0)
+Shown (Err e) sheet ws r ws' bits' = (r ≡ status_of e) × (ws' ≡ ws) × (bits' ≡ to_bits binary64 (told_of e).value)
 
 -- the answer of `drag_sheet`'s own call on the sheet that the words stand for, shown in words
 pub record CallShown (call : Call) (ws : List ℕ) (xs : List Float) (r : ℕ) (ws' : List ℕ) (bits' : ℕ) (ys : List Float) : Type 0 where
@@ -228,11 +221,11 @@ part_known part ws = cond (ltb 5 (get_or part 0 0)) false (sheet_known ws)
 
 -- ---- cards
 
-abbrev pub PartCard : PartRead → ℕ → List ℕ → List ℕ → ℕ → ℕ → Type 0
-PartCard (Read part last) r ws ws' next next' = (r ≡ 0) × (ws' ≡ part_words part) × (next' ≡ last)
-PartCard (NoPart e) r ws ws' next next' = (r ≡ status_of e) × (ws' ≡ ws) × (next' ≡ next)
+abbrev pub PartCard : Read Part → ℕ → List ℕ → List ℕ → ℕ → ℕ → Type 0
+PartCard (Ok (part, last)) r ws ws' next next' = (r ≡ 0) × (ws' ≡ part_words part) × (next' ≡ last)
+PartCard (Err e) r ws ws' next next' = (r ≡ status_of e) × (ws' ≡ ws) × (next' ≡ next)
 
 -- a settings card gives a sheet's first words
-abbrev pub SettingsCard : Check → SettingsRead → ℕ → List ℕ → List ℕ → ℕ → ℕ → Type 0
-SettingsCard Passed read r ws ws' next next' = (r ≡ 0) × (ws' ≡ sets ws 0 (settings_words read.settings)) × (next' ≡ read.next)
-SettingsCard (Failed e) read r ws ws' next next' = (r ≡ status_of e) × (ws' ≡ ws) × (next' ≡ next)
+abbrev pub SettingsCard : Read Settings → ℕ → List ℕ → List ℕ → ℕ → ℕ → Type 0
+SettingsCard (Ok (settings, last)) r ws ws' next next' = (r ≡ 0) × (ws' ≡ sets ws 0 (settings_words settings)) × (next' ≡ last)
+SettingsCard (Err e) r ws ws' next next' = (r ≡ status_of e) × (ws' ≡ ws) × (next' ≡ next)

@@ -2,14 +2,12 @@
 --
 --   a part's words: the shape's number, its parameter, length, aft diameter, joint angle, wetted ratio, whether the roughness is its own, and that roughness
 --   a sheet's words: reference diameter, roughness, body fineness, number of columns, the Machs, the Reynolds numbers, nozzle diameter, number of parts, the parts
-use Rattle.std.specs.Prelude.{Bool, true, false, cond, List, [], ◌∷◌, ◌++◌, ℕ, zero, suc, ◌+◌, ◌*◌, get_or, drop, ltb, eqb, Float}
+use Rattle.std.specs.Prelude.{Bool, true, false, cond, List, [], ◌∷◌, ◌++◌, ℕ, zero, suc, ◌+◌, ◌*◌, get_or, drop, ltb, eqb, Float, Some, Option, None}
 use Rattle.std.specs.Float.Ieee.{to_bits}
 use Rattle.std.specs.Float.{binary64}
 use Rattle.elementary.specs.Arithmetic.{bits}
 use Rattle.shapes.specs.Numbers.{number_of_shape, shape_of, parameter_of}
 use Rattle.sheet_data.specs.declared.Settings.{Settings}
-use Rattle.sheet_data.specs.declared.PartRoughness.{PartRoughness}
-use Rattle.sheet_data.specs.declared.PartRoughness.TheVariants.{OfSettings, Own}
 use Rattle.sheet_data.specs.declared.Part.{Part}
 use Rattle.sheet_data.specs.declared.Sheet.{Sheet}
 use Rattle.sheet_data.specs.Layout.{most_columns, most_parts}
@@ -52,8 +50,8 @@ abbrev pub float : List ℕ → Float
 float ws = bits (get_or ws 0 0)
 
 -- a part's roughness: with flag 0 the settings' one, with any other its own
-abbrev pub own_of : ℕ → Float → PartRoughness
-own_of flag x = cond (eqb flag 0) OfSettings (Own x)
+abbrev pub own_of : ℕ → Float → Option Float
+own_of flag x = cond (eqb flag 0) None (Some x)
 
 abbrev pub part_of : List ℕ → Part
 part_of ws = record {
@@ -98,13 +96,13 @@ abbrev pub float_words : Float → List ℕ
 float_words x = to_bits binary64 x ∷ []
 
 -- whether a part's roughness is its own, and its bits; both 0 where it is the settings' one
-abbrev pub own_flag : PartRoughness → ℕ
-own_flag OfSettings = 0
-own_flag (Own x) = 1
+abbrev pub own_flag : Option Float → ℕ
+own_flag None = 0
+own_flag (Some x) = 1
 
-abbrev pub own_bits : PartRoughness → ℕ
-own_bits OfSettings = 0
-own_bits (Own x) = to_bits binary64 x
+abbrev pub own_bits : Option Float → ℕ
+own_bits None = 0
+own_bits (Some x) = to_bits binary64 x
 
 abbrev pub part_words : Part → List ℕ
 part_words p =

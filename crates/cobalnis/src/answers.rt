@@ -5,17 +5,15 @@ ghost use Rattle.std.specs.Float.{binary64};
 ghost use Rattle.aero_error.specs.Refusals.{refused_value};
 ghost use Rattle.cobalnis.specs.Answers.{status_of, answer_status, answer_bits, tested};
 
-use aero_error::{AeroError, Check, Coefficient};
+use aero_error::AeroError;
 
-// The status for a number that names no formula, shape, nose or quantity.
+// The status for a number that names no formula, shape, nose or quantity. A status is a number since C reads it.
 pub(crate) const NO_SUCH: u32 = 65535;
 
 pub(crate) fn status_of(e: AeroError) -> u32
     ensures { result ≡ status_of e }
 {
-    let number = e.number();
-    let code = e.code();
-    number as u32 + 256 * (code as u32)
+    u32::from(e.number()) + 256 * u32::from(e.code())
 }
 
 pub(crate) fn refuse(e: AeroError, bits: &mut u64) -> u32
@@ -25,24 +23,22 @@ pub(crate) fn refuse(e: AeroError, bits: &mut u64) -> u32
     status_of(e)
 }
 
-pub(crate) fn hand_out(c: Coefficient, bits: &mut u64) -> u32
-    ensures { (result ≡ answer_status c) × (bits.new ≡ answer_bits c) }
+pub(crate) fn hand_out(answer: Result<f64, AeroError>, bits: &mut u64) -> u32
+    ensures { (result ≡ answer_status answer) × (bits.new ≡ answer_bits answer) }
 {
-    match c {
-        Coefficient::Value(v) => {
+    match answer {
+        Ok(v) => {
             *bits = elementary::to_bits(v);
             0
         }
-        Coefficient::Refused(e) => refuse(e, bits),
+        Err(e) => refuse(e, bits),
     }
 }
 
 // A test that passes answers +0.
-pub(crate) fn tested(check: Check) -> Coefficient
+pub(crate) fn tested(check: Result<(), AeroError>) -> Result<f64, AeroError>
     ensures { result ≡ tested check }
 {
-    match check {
-        Check::Passed => Coefficient::Value(0.0),
-        Check::Failed(e) => Coefficient::Refused(e),
-    }
+    check?;
+    Ok(0.0)
 }

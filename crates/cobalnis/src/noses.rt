@@ -9,11 +9,10 @@ ghost use Rattle.cobalnis.specs.Words.{spread};
 ghost use Rattle.cobalnis.specs.Answers.{no_such, is_nose, point_status, point_words, lookup_words, WalkDone, curve_from, coefficient_bits, coefficient_word, about, ReadAt, CurveAnswered};
 
 use crate::answers::{NO_SUCH, refuse, status_of};
-use aero_error::{AeroError, Check, Coefficient, Rule};
-use nose_drag::{Curve, PressureDragCurve};
+use aero_error::{AeroError, Rule};
+use nose_drag::PressureDragCurve;
 use shapes::NoseShape;
 use stoney::StoneyNose;
-use walk::Walked;
 
 // ---- Stoney's noses
 
@@ -21,36 +20,35 @@ use walk::Walked;
 pub fn cobalnis_nose_point(nose: u32, place: usize, out: &mut [u64; 2]) -> u32
     ensures { (result ≡ point_status nose place) × (out.new ≡ point_words nose place out.old) }
 {
-    if nose <= 8 {
-        let range = StoneyNose::of_number(nose as u64).points();
-        if range.count <= place {
-            return status_of(AeroError::Broken(Rule::NoSuchPlace));
-        }
-        let at = range.first + place;
-        *out = [
-            elementary::to_bits(stoney::mach_at(at)),
-            elementary::to_bits(stoney::drag_at(at)),
-        ];
-        return 0;
+    let Ok(known) = StoneyNose::try_from(nose) else {
+        return NO_SUCH;
+    };
+    let range = known.points();
+    if range.count <= place {
+        return status_of(AeroError::Broken(Rule::NoSuchPlace));
     }
-    NO_SUCH
+    let at = range.first + place;
+    *out = [
+        elementary::to_bits(stoney::mach_at(at)),
+        elementary::to_bits(stoney::drag_at(at)),
+    ];
+    0
 }
 
 // A table's value and slope at a Mach, and its first Mach.
 pub fn cobalnis_nose_lookup(nose: u32, mach: f64, out: &mut [u64; 3]) -> u32
     ensures { (result ≡ cond (is_nose nose) 0 no_such) × (out.new ≡ lookup_words nose mach out.old) }
 {
-    if nose <= 8 {
-        let known = StoneyNose::of_number(nose as u64);
-        let at = known.value_and_slope(mach);
-        *out = [
-            elementary::to_bits(at.value),
-            elementary::to_bits(at.slope),
-            elementary::to_bits(known.first_mach()),
-        ];
-        return 0;
-    }
-    NO_SUCH
+    let Ok(known) = StoneyNose::try_from(nose) else {
+        return NO_SUCH;
+    };
+    let at = known.value_and_slope(mach);
+    *out = [
+        elementary::to_bits(at.value),
+        elementary::to_bits(at.slope),
+        elementary::to_bits(known.first_mach()),
+    ];
+    0
 }
 
 // A nose's values at these Machs, in one walk along its table, and how many times a Mach was set against a point.
@@ -63,26 +61,31 @@ pub fn cobalnis_nose_walk(
 ) -> u32
     ensures { WalkDone (is_nose nose) nose machs.now answers.old compared.old bits.old result answers.new compared.new bits.new }
 {
-    if nose <= 8 {
-        return match walk::values(StoneyNose::of_number(nose as u64), machs, answers) {
-            Walked::Compared(count) => {
-                *compared = count;
-                *bits = 0;
-                0
-            }
-            Walked::Refused(e) => refuse(e, bits),
-        };
+    let Ok(known) = StoneyNose::try_from(nose) else {
+        return NO_SUCH;
+    };
+    match walk::values(known, machs, answers) {
+        Ok(count) => {
+            *compared = count;
+            *bits = 0;
+            0
+        }
+        Err(e) => refuse(e, bits),
     }
-    NO_SUCH
 }
 
 // ---- curves
 
-fn curve_of(shape: u64, parameter: f64, fineness_ratio: f64, joint_angle_rad: f64) -> Curve
+fn curve_of(
+    shape: u64,
+    parameter: f64,
+    fineness_ratio: f64,
+    joint_angle_rad: f64,
+) -> Result<PressureDragCurve, AeroError>
     ensures { result ≡ curve_from shape parameter fineness_ratio joint_angle_rad }
 {
     if shape == 6 {
-        return Curve::Built(PressureDragCurve::step());
+        return Ok(PressureDragCurve::step());
     }
     PressureDragCurve::new(
         NoseShape::of_number(shape, parameter),
@@ -95,8 +98,8 @@ fn coefficient_bits(curve: PressureDragCurve, mach: f64) -> u64
     ensures { result ≡ coefficient_bits curve mach }
 {
     match curve.coefficient(mach) {
-        Coefficient::Value(v) => elementary::to_bits(v),
-        Coefficient::Refused(e) => elementary::to_bits(e.value()),
+        Ok(v) => elementary::to_bits(v),
+        Err(e) => elementary::to_bits(e.value()),
     }
 }
 
@@ -104,10 +107,8 @@ fn fill(curve: PressureDragCurve, machs: &[f64], out: &mut [u64])
     requires { length machs.now ≤ length out.old }
     ensures { out.new ≡ sets out.old 0 (spread (coefficient_word curve) machs.now) }
 {
-    let mut i = 0usize;
-    while i < machs.len() {
-        out[i] = coefficient_bits(curve, machs[i]);
-        i += 1;
+    for (i, mach) in machs.iter().enumerate() {
+        out[i] = coefficient_bits(curve, *mach);
     }
 }
 
@@ -130,11 +131,11 @@ fn read_curve(curve: PressureDragCurve, machs: &[f64], out: &mut [u64], said: &m
         return status_of(AeroError::Broken(Rule::TooFewCells));
     }
     match drag::check_machs(machs) {
-        Check::Failed(e) => {
+        Err(e) => {
             *said = about(e.value(), curve);
             status_of(e)
         }
-        Check::Passed => {
+        Ok(()) => {
             fill(curve, machs, out);
             *said = about(0.0, curve);
             0
@@ -158,10 +159,10 @@ pub fn cobalnis_curve(
         return NO_SUCH;
     }
     match curve_of(shape, parameter, fineness_ratio, joint_angle_rad) {
-        Curve::Refused(e) => {
+        Err(e) => {
             *said = [elementary::to_bits(e.value()), 0, 0];
             status_of(e)
         }
-        Curve::Built(curve) => read_curve(curve, machs, out, said),
+        Ok(curve) => read_curve(curve, machs, out, said),
     }
 }

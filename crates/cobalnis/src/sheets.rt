@@ -7,22 +7,25 @@ ghost use Rattle.cobalnis.specs.Answers.{Shown, CallDone, OpenShown, sheet_known
 use crate::answers::refuse;
 use crate::words;
 use crate::words::{PART_WORDS, SHEET_WORDS};
-use aero_error::{AeroError, Check, Rule};
-use drag_sheet::Answer;
+use aero_error::{AeroError, Rule};
+use sheet_data::Sheet;
 
 // A call's answer in words: a refused one leaves them.
-fn show(answer: Answer, words: &mut [u64; SHEET_WORDS], bits: &mut u64) -> u32
-    ensures { Shown answer.outcome answer.sheet words.old result words.new bits.new }
+fn show(
+    outcome: Result<(), AeroError>,
+    sheet: Sheet,
+    words: &mut [u64; SHEET_WORDS],
+    bits: &mut u64,
+) -> u32
+    ensures { Shown outcome sheet words.old result words.new bits.new }
 {
-    let outcome = answer.outcome;
-    let sheet = answer.sheet;
     match outcome {
-        Check::Passed => {
+        Ok(()) => {
             *words = words::sheet_words(sheet);
             *bits = 0;
             0
         }
-        Check::Failed(e) => refuse(e, bits),
+        Err(e) => refuse(e, bits),
     }
 }
 
@@ -40,8 +43,10 @@ fn part_known(part: &[u64; PART_WORDS], words: &[u64; SHEET_WORDS]) -> bool
 pub fn cobalnis_open(words: &mut [u64; SHEET_WORDS], cells: &mut [f64], bits: &mut u64) -> u32
     ensures { OpenShown words.old cells.old result words.new bits.new cells.new }
 {
-    let answer = drag_sheet::open(words::settings_of(words), cells);
-    show(answer, words, bits)
+    let settings = words::settings_of(words);
+    let mut sheet = Sheet::blank(settings);
+    let outcome = drag_sheet::open(&mut sheet, settings, cells);
+    show(outcome, sheet, words, bits)
 }
 
 pub fn cobalnis_insert(
@@ -54,9 +59,9 @@ pub fn cobalnis_insert(
     ensures { CallDone (part_known part.now words.old) (insert_call place (part_of part.now)) words.old cells.old result words.new bits.new cells.new }
 {
     if part_known(part, words) {
-        let sheet = words::sheet_of(words);
-        let answer = drag_sheet::insert(sheet, place, words::part_of(part), cells);
-        return show(answer, words, bits);
+        let mut sheet = words::sheet_of(words);
+        let outcome = drag_sheet::insert(&mut sheet, place, words::part_of(part), cells);
+        return show(outcome, sheet, words, bits);
     }
     refuse(AeroError::Broken(Rule::ReservedBit), bits)
 }
@@ -71,9 +76,9 @@ pub fn cobalnis_replace(
     ensures { CallDone (part_known part.now words.old) (replace_call place (part_of part.now)) words.old cells.old result words.new bits.new cells.new }
 {
     if part_known(part, words) {
-        let sheet = words::sheet_of(words);
-        let answer = drag_sheet::replace(sheet, place, words::part_of(part), cells);
-        return show(answer, words, bits);
+        let mut sheet = words::sheet_of(words);
+        let outcome = drag_sheet::replace(&mut sheet, place, words::part_of(part), cells);
+        return show(outcome, sheet, words, bits);
     }
     refuse(AeroError::Broken(Rule::ReservedBit), bits)
 }
@@ -87,8 +92,9 @@ pub fn cobalnis_remove(
     ensures { CallDone (sheet_known words.old) (remove_call place) words.old cells.old result words.new bits.new cells.new }
 {
     if words::shapes_known(words) {
-        let answer = drag_sheet::remove(words::sheet_of(words), place, cells);
-        return show(answer, words, bits);
+        let mut sheet = words::sheet_of(words);
+        let outcome = drag_sheet::remove(&mut sheet, place, cells);
+        return show(outcome, sheet, words, bits);
     }
     refuse(AeroError::Broken(Rule::ReservedBit), bits)
 }
@@ -104,9 +110,9 @@ pub fn cobalnis_set_column(
     ensures { CallDone (sheet_known words.old) (column_call column mach reynolds) words.old cells.old result words.new bits.new cells.new }
 {
     if words::shapes_known(words) {
-        let sheet = words::sheet_of(words);
-        let answer = drag_sheet::set_column(sheet, column, mach, reynolds, cells);
-        return show(answer, words, bits);
+        let mut sheet = words::sheet_of(words);
+        let outcome = drag_sheet::set_column(&mut sheet, column, mach, reynolds, cells);
+        return show(outcome, sheet, words, bits);
     }
     refuse(AeroError::Broken(Rule::ReservedBit), bits)
 }
@@ -120,8 +126,9 @@ pub fn cobalnis_ignite(
     ensures { CallDone (sheet_known words.old) (ignite_call nozzle_diameter) words.old cells.old result words.new bits.new cells.new }
 {
     if words::shapes_known(words) {
-        let answer = drag_sheet::ignite(words::sheet_of(words), nozzle_diameter, cells);
-        return show(answer, words, bits);
+        let mut sheet = words::sheet_of(words);
+        let outcome = drag_sheet::ignite(&mut sheet, nozzle_diameter, cells);
+        return show(outcome, sheet, words, bits);
     }
     refuse(AeroError::Broken(Rule::ReservedBit), bits)
 }
@@ -130,8 +137,9 @@ pub fn cobalnis_burnout(words: &mut [u64; SHEET_WORDS], cells: &mut [f64], bits:
     ensures { CallDone (sheet_known words.old) burnout_call words.old cells.old result words.new bits.new cells.new }
 {
     if words::shapes_known(words) {
-        let answer = drag_sheet::burnout(words::sheet_of(words), cells);
-        return show(answer, words, bits);
+        let mut sheet = words::sheet_of(words);
+        let outcome = drag_sheet::burnout(&mut sheet, cells);
+        return show(outcome, sheet, words, bits);
     }
     refuse(AeroError::Broken(Rule::ReservedBit), bits)
 }

@@ -6,8 +6,6 @@ ghost use Rattle.cobalnis.specs.Answers.{PartCard, SettingsCard};
 use crate::answers::status_of;
 use crate::words;
 use crate::words::{PART_WORDS, SHEET_WORDS};
-use aero_error::Check;
-use cards::PartRead;
 
 // The settings card at a position of the bytes, as the first words of a sheet, and the position after it.
 pub fn cobalnis_read_settings(
@@ -16,16 +14,13 @@ pub fn cobalnis_read_settings(
     words: &mut [u64; SHEET_WORDS],
     next: &mut usize,
 ) -> u32
-    ensures { SettingsCard (settings_at bytes.now at).outcome (settings_at bytes.now at) result words.old words.new next.old next.new }
+    ensures { SettingsCard (settings_at bytes.now at) result words.old words.new next.old next.new }
 {
-    let read = cards::read_settings(bytes, at);
-    let outcome = read.outcome;
-    let settings = read.settings;
-    match outcome {
-        Check::Failed(e) => status_of(e),
-        Check::Passed => {
+    match cards::read_settings(bytes, at) {
+        Err(e) => status_of(e),
+        Ok((settings, end)) => {
             words::put_settings(settings, words);
-            *next = read.next;
+            *next = end;
             0
         }
     }
@@ -41,8 +36,8 @@ pub fn cobalnis_read_part(
     ensures { PartCard (part_at bytes.now at) result words.old words.new next.old next.new }
 {
     match cards::read_part(bytes, at) {
-        PartRead::Refused(e) => status_of(e),
-        PartRead::Read { part, next: end } => {
+        Err(e) => status_of(e),
+        Ok((part, end)) => {
             *words = words::part_words(part);
             *next = end;
             0

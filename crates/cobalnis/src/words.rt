@@ -8,7 +8,7 @@ ghost use Rattle.cobalnis.specs.Words.{part_word_count, first_part, sheet_word_c
 
 use shapes::NoseShape;
 use sheet_data::layout::{COLUMNS, PARTS};
-use sheet_data::{Design, Part, PartRoughness, Settings, Sheet};
+use sheet_data::{Design, Part, Settings, Sheet};
 
 // Where the words lie: the Machs, the Reynolds numbers, the nozzle diameter, the number of parts, the parts.
 pub const PART_WORDS: usize = 8;
@@ -30,13 +30,13 @@ pub const SHEET_WORDS: usize = FIRST_PART + PARTS * PART_WORDS;
 // ---- from words
 
 // A part's roughness from its flag and its word, which is not looked at where the flag is 0.
-fn own_of(flag: u64, word: u64) -> PartRoughness
+fn own_of(flag: u64, word: u64) -> Option<f64>
     ensures { result ≡ own_of flag (bits word) }
 {
     if flag == 0 {
-        return PartRoughness::OfSettings;
+        return None;
     }
-    PartRoughness::Own(elementary::from_bits(word))
+    Some(elementary::from_bits(word))
 }
 
 // The part whose words begin at a place.
@@ -66,10 +66,8 @@ fn floats_at(words: &[u64; SHEET_WORDS], at: usize) -> [f64; COLUMNS]
     ensures { result ≡ every float 1 most_columns (drop at words.now) }
 {
     let mut out = [0.0; COLUMNS];
-    let mut i = 0usize;
-    while i < COLUMNS {
+    for i in 0..COLUMNS {
         out[i] = elementary::from_bits(words[at + i]);
-        i += 1;
     }
     out
 }
@@ -79,10 +77,8 @@ fn parts_of(words: &[u64; SHEET_WORDS]) -> [Part; PARTS]
 {
     let empty = Part::empty();
     let mut out = [empty; PARTS];
-    let mut i = 0usize;
-    while i < PARTS {
+    for i in 0..PARTS {
         out[i] = part_at(words, FIRST_PART + PART_WORDS * i);
-        i += 1;
     }
     out
 }
@@ -121,12 +117,10 @@ pub fn sheet_of(words: &[u64; SHEET_WORDS]) -> Sheet
 pub fn shapes_known(words: &[u64; SHEET_WORDS]) -> bool
     ensures { result ≡ shapes_known most_parts (drop first_part words.now) }
 {
-    let mut i = 0usize;
-    while i < PARTS {
+    for i in 0..PARTS {
         if 5 < words[FIRST_PART + PART_WORDS * i] {
             return false;
         }
-        i += 1;
     }
     true
 }
@@ -134,21 +128,21 @@ pub fn shapes_known(words: &[u64; SHEET_WORDS]) -> bool
 // ---- to words
 
 // A part's roughness as flag and word, both 0 for the settings' one.
-fn own_flag(roughness: PartRoughness) -> u64
+fn own_flag(roughness: Option<f64>) -> u64
     ensures { result ≡ own_flag roughness }
 {
     match roughness {
-        PartRoughness::OfSettings => 0,
-        PartRoughness::Own(_) => 1,
+        None => 0,
+        Some(_) => 1,
     }
 }
 
-fn own_bits(roughness: PartRoughness) -> u64
+fn own_bits(roughness: Option<f64>) -> u64
     ensures { result ≡ own_bits roughness }
 {
     match roughness {
-        PartRoughness::OfSettings => 0,
-        PartRoughness::Own(x) => elementary::to_bits(x),
+        None => 0,
+        Some(x) => elementary::to_bits(x),
     }
 }
 
@@ -173,10 +167,8 @@ fn put_floats(floats: [f64; COLUMNS], words: &mut [u64; SHEET_WORDS], start: usi
     requires { start + most_columns ≤ sheet_word_count }
     ensures { words.new ≡ sets words.old start (spread float_words floats) }
 {
-    let mut i = 0usize;
-    while i < COLUMNS {
+    for i in 0..COLUMNS {
         words[start + i] = elementary::to_bits(floats[i]);
-        i += 1;
     }
 }
 
@@ -184,25 +176,15 @@ fn put_part(part: Part, words: &mut [u64; SHEET_WORDS], at: usize)
     requires { at + part_word_count ≤ sheet_word_count }
     ensures { words.new ≡ sets words.old at (part_words part) }
 {
-    let eight = part_words(part);
-    words[at] = eight[0];
-    words[at + 1] = eight[1];
-    words[at + 2] = eight[2];
-    words[at + 3] = eight[3];
-    words[at + 4] = eight[4];
-    words[at + 5] = eight[5];
-    words[at + 6] = eight[6];
-    words[at + 7] = eight[7];
+    words[at..at + PART_WORDS].copy_from_slice(&part_words(part));
 }
 
 fn put_parts(parts: [Part; PARTS], words: &mut [u64; SHEET_WORDS])
     ensures { words.new ≡ sets words.old first_part (spread part_words parts) }
 {
-    let mut i = 0usize;
-    while i < PARTS {
+    for i in 0..PARTS {
         let part = parts[i];
         put_part(part, words, FIRST_PART + PART_WORDS * i);
-        i += 1;
     }
 }
 

@@ -198,7 +198,7 @@ pub extern "C" fn cobalnis_read_settings(
     words: &mut [u64; SHEET_WORDS],
     next: &mut usize,
 ) -> u32
-    ensures { SettingsCard (settings_at bytes.now at).outcome (settings_at bytes.now at) result words.old words.new next.old next.new }
+    ensures { SettingsCard (settings_at bytes.now at) result words.old words.new next.old next.new }
 {
     cobalnis::cobalnis_read_settings(bytes, at, words, next)
 }

@@ -9,6 +9,3 @@ use Rattle.cobalnis.proofs.noses.fill.Given as goal
 
 abbrev pub invariant-loop-i : goal.invariant-loop-i
 invariant-loop-i l = (l.i ≤ length l.machs) × (length l.out ≡ length l.initial.out) × (sets l.initial.out 0 (spread (coefficient_word l.curve) l.machs) ≡ sets l.out l.i (spread (coefficient_word l.curve) (drop l.i l.machs)))
-
-abbrev pub decreases-loop-i : goal.decreases-loop-i
-decreases-loop-i l = length l.machs - l.i

@@ -8,6 +8,3 @@ use Rattle.cobalnis.proofs.words.floats_at.Given as goal
 
 abbrev pub invariant-loop-i : goal.invariant-loop-i
 invariant-loop-i l = Filling (λ k. float (drop (k * 1) (drop l.at l.words))) l.initial.out l.out l.i
-
-abbrev pub decreases-loop-i : goal.decreases-loop-i
-decreases-loop-i l = most_columns - l.i

@@ -8,6 +8,3 @@ use Rattle.cobalnis.proofs.words.parts_of.Given as goal
 
 abbrev pub invariant-loop-i : goal.invariant-loop-i
 invariant-loop-i l = Filling (λ k. part_of (drop (k * part_word_count) (drop first_part l.words))) l.initial.out l.out l.i
-
-abbrev pub decreases-loop-i : goal.decreases-loop-i
-decreases-loop-i l = most_parts - l.i

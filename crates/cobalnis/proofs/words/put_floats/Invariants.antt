@@ -9,6 +9,3 @@ use Rattle.cobalnis.proofs.words.put_floats.Given as goal
 
 abbrev pub invariant-loop-i : goal.invariant-loop-i
 invariant-loop-i l = (l.i ≤ most_columns) × (sets l.initial.words l.start (spread float_words l.floats) ≡ sets l.words (l.start + l.i) (spread float_words (drop l.i l.floats)))
-
-abbrev pub decreases-loop-i : goal.decreases-loop-i
-decreases-loop-i l = most_columns - l.i

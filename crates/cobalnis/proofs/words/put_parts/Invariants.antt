@@ -9,6 +9,3 @@ use Rattle.cobalnis.proofs.words.put_parts.Given as goal
 
 abbrev pub invariant-loop-i : goal.invariant-loop-i
 invariant-loop-i l = (l.i ≤ most_parts) × (sets l.initial.words first_part (spread part_words l.parts) ≡ sets l.words (first_part + part_word_count * l.i) (spread part_words (drop l.i l.parts)))
-
-abbrev pub decreases-loop-i : goal.decreases-loop-i
-decreases-loop-i l = most_parts - l.i

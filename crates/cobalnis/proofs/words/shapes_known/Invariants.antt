@@ -8,6 +8,3 @@ use Rattle.cobalnis.proofs.words.shapes_known.Given as goal
 
 abbrev pub invariant-loop-i : goal.invariant-loop-i
 invariant-loop-i l = (l.i ≤ most_parts) × (shapes_known most_parts (drop first_part l.words) ≡ shapes_known (most_parts - l.i) (drop (l.i * part_word_count) (drop first_part l.words)))
-
-abbrev pub decreases-loop-i : goal.decreases-loop-i
-decreases-loop-i l = most_parts - l.i
