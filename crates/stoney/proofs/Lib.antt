@@ -1,5 +1,5 @@
 -- That Mach rises within each table, which segment holds a Mach number, the law of the two tables that are run down to Mach 0.8, the lookup as one walk through the
--- corners of the broken line, that what a table says is bounded, and how far it is from that line.
+-- corners of the broken line, that what a table says is bounded, how far it is from that line, and that no table is empty.
 pub mod Rises
 pub mod Segments
 pub mod RunDown
@@ -7,3 +7,4 @@ pub mod Corners
 pub mod Bounded
 pub mod Segment
 pub mod Distance
+pub mod Table

@@ -10,11 +10,12 @@ use Rattle.elementary.specs.Arithmetic.{◌≺◌, bits}
 use Rattle.stoney.specs.declared.StoneyNose.{StoneyNose}
 use Rattle.stoney.specs.declared.StoneyNose.TheVariants.{PowerQuarter, PowerHalf, PowerThreeQuarters, ParabolaHalf, ParabolaThreeQuarters, Parabola, Ellipsoid, LvHaack, VonKarman}
 use Rattle.stoney.specs.declared.PointRange.{PointRange}
+use Rattle.stoney.specs.declared.StoredPoint.{StoredPoint}
 use Rattle.stoney.specs.Tables.{noses, tabled}
 
-pub record Point : Type 0 where
-  pub mach : Float
-  pub drag : Float
+-- Mach, and the drag there
+abbrev pub Point : Type 0
+Point = StoredPoint
 
 -- the stored point of a tabled pair: thousandths of Mach, ten-thousandths of drag, each rounded to binary64
 abbrev pub point : ℕ × ℕ → Point
@@ -23,7 +24,7 @@ point p = record { mach = round binary64 false p.0 1000; drag = round binary64 f
 unfoldable pub points : StoneyNose → List Point
 points nose = map point (tabled nose)
 
--- the two flat arrays, as one list of points
+-- the table of all points
 abbrev joined : List StoneyNose → List Point
 unfolding points
 joined [] = []
@@ -33,7 +34,7 @@ unfoldable pub all_points : List Point
 unfolding joined
 all_points = joined noses
 
--- past the end of the arrays
+-- past the end of the table
 abbrev pub no_point : Point
 no_point = record { mach = bits 0; drag = bits 0 }
 
@@ -75,7 +76,7 @@ part_of_all Ellipsoid = refl
 part_of_all LvHaack = refl
 part_of_all VonKarman = refl
 
--- what stands at a nose's own place k stands at the place first + k of the arrays
+-- what stands at a nose's own place k stands at the place first + k of the table
 pub at_place : (nose : StoneyNose) (k : ℕ) → k < (range_of nose).count → get_or all_points ((range_of nose).first + k) no_point ≡ get_or (points nose) k no_point
 at_place nose k h = rw (← part_of_all nose, get_or-take, get_or-drop)
 

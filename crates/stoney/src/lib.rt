@@ -1,12 +1,11 @@
 // Stoney's nine measured noses (NASA TR R-100, 1961, figure 12, fineness 3) as points of Mach and pressure drag, and the value and slope that a
-// table gives at any Mach number (nose_drag.rs, `StoneyNose`). Two flat arrays hold the points of all nine, and each nose has its range in them.
+// table gives at any Mach number (nose_drag.rs, `StoneyNose`). One table holds the points of all nine, and each nose has its range in it.
 #![tactic(auto)]
 
-ghost use Rattle.std.specs.Prelude.{◌≡◌};
+ghost use Rattle.std.specs.Prelude.{◌≡◌, ◌<◌, ◌≤◌, length, OkIff};
 ghost use Rattle.stoney.specs.Tables.{nose_at};
-ghost use Rattle.stoney.specs.Points.{mach_at, drag_at, range_of, first_mach};
+ghost use Rattle.stoney.specs.Points.{points, mach_at, drag_at, range_of, first_mach};
 ghost use Rattle.stoney.specs.Lookup.{before, line, lookup, value_and_slope};
-ghost use Rattle.stoney.specs.Stored.{Stored, stretch};
 
 // The top of the subsonic region, where the transonic methods start (Niskanen 2009, Table 3.1, p. 47), and where a table that starts
 // above it is run down to 0.
@@ -15,65 +14,79 @@ pub const SUBSONIC_MACH_LIMIT: f64 = 0.8;
 // How many points the nine tables hold.
 pub const POINTS: usize = 149;
 
-// The Mach numbers of all points, nose after nose.
-pub const MACH: [f64; 149] = [
-    // PowerQuarter
-    1.2, 1.25, 1.3, 1.4, 1.5, 1.6, 1.8, 2.0, 2.4, 2.8, 3.2, 3.587,
-    // PowerHalf
-    0.8, 0.85, 0.9, 0.934, 0.95, 1.0, 1.05, 1.1, 1.15, 1.2, 1.25, 1.3, 1.4, 1.5, 1.6, 1.8, 1.941,
-    // PowerThreeQuarters
-    0.8, 0.85, 0.87, 0.9, 0.95, 1.0, 1.05, 1.057, 1.1, 1.15, 1.2, 1.25, 1.3, 1.4, 1.5, 1.6, 1.8,
-    1.967,
-    // ParabolaHalf
-    0.8, 0.817, 0.85, 0.9, 0.95, 1.0, 1.05, 1.081, 1.1, 1.15, 1.2, 1.25, 1.3, 1.4, 1.5, 1.6, 1.8,
-    1.968,
-    // ParabolaThreeQuarters
-    0.8, 0.85, 0.9, 0.902, 0.95, 1.0, 1.05, 1.1, 1.136, 1.15, 1.2, 1.25, 1.3, 1.4, 1.5, 1.6, 1.8,
-    1.968,
-    // Parabola
-    0.8, 0.85, 0.9, 0.95, 0.952, 1.0, 1.05, 1.1, 1.15, 1.165, 1.2, 1.25, 1.3, 1.4, 1.5, 1.6, 1.8,
-    1.975,
-    // Ellipsoid
-    1.2, 1.25, 1.3, 1.4, 1.5, 1.6, 1.8, 2.0, 2.4, 2.8, 3.2, 3.587,
-    // LvHaack
-    0.8, 0.85, 0.9, 0.915, 0.95, 1.0, 1.05, 1.1, 1.15, 1.2, 1.25, 1.3, 1.4, 1.5, 1.6, 1.617, 1.8,
-    1.977,
-    // VonKarman
-    0.8, 0.85, 0.9, 0.915, 0.95, 1.0, 1.05, 1.1, 1.15, 1.2, 1.25, 1.3, 1.4, 1.5, 1.553, 1.6, 1.8,
-    1.994,
-];
+// All points, nose after nose: Mach, and the pressure drag on the base area. `$made` makes an array of them.
+macro_rules! all_points {
+    ($made:ident) => {
+        $made![
+            // PowerQuarter
+            (1.2, 0.141), (1.25, 0.148), (1.3, 0.1558), (1.4, 0.1689), (1.5, 0.1809), (1.6, 0.1894),
+            (1.8, 0.2051), (2.0, 0.2165), (2.4, 0.2331), (2.8, 0.2441), (3.2, 0.248),
+            (3.587, 0.2491),
+            // PowerHalf
+            (0.8, 0.0), (0.85, 0.0), (0.9, 0.0), (0.934, 0.0), (0.95, 0.0069), (1.0, 0.046),
+            (1.05, 0.0597), (1.1, 0.0573), (1.15, 0.0675), (1.2, 0.08), (1.25, 0.0853),
+            (1.3, 0.0851), (1.4, 0.0847), (1.5, 0.0856), (1.6, 0.086), (1.8, 0.0885),
+            (1.941, 0.0898),
+            // PowerThreeQuarters
+            (0.8, 0.0), (0.85, 0.0), (0.87, 0.0), (0.9, 0.0131), (0.95, 0.0375), (1.0, 0.0848),
+            (1.05, 0.1185), (1.057, 0.1185), (1.1, 0.1095), (1.15, 0.1089), (1.2, 0.109),
+            (1.25, 0.1032), (1.3, 0.1001), (1.4, 0.097), (1.5, 0.0932), (1.6, 0.09), (1.8, 0.0847),
+            (1.967, 0.0789),
+            // ParabolaHalf
+            (0.8, 0.0), (0.817, 0.0), (0.85, 0.0057), (0.9, 0.0155), (0.95, 0.0403), (1.0, 0.094),
+            (1.05, 0.1231), (1.081, 0.1247), (1.1, 0.1235), (1.15, 0.1149), (1.2, 0.1139),
+            (1.25, 0.1068), (1.3, 0.1009), (1.4, 0.0936), (1.5, 0.0877), (1.6, 0.0854),
+            (1.8, 0.0854), (1.968, 0.0864),
+            // ParabolaThreeQuarters
+            (0.8, 0.0), (0.85, 0.0), (0.9, 0.0), (0.902, 0.0), (0.95, 0.0182), (1.0, 0.069),
+            (1.05, 0.0889), (1.1, 0.1049), (1.136, 0.1078), (1.15, 0.1072), (1.2, 0.1036),
+            (1.25, 0.0997), (1.3, 0.0932), (1.4, 0.0861), (1.5, 0.082), (1.6, 0.0817),
+            (1.8, 0.0797), (1.968, 0.0814),
+            // Parabola
+            (0.8, 0.0), (0.85, 0.0), (0.9, 0.0), (0.95, 0.0), (0.952, 0.0), (1.0, 0.037),
+            (1.05, 0.0898), (1.1, 0.1073), (1.15, 0.1149), (1.165, 0.1162), (1.2, 0.1161),
+            (1.25, 0.1145), (1.3, 0.1134), (1.4, 0.1103), (1.5, 0.1078), (1.6, 0.1067),
+            (1.8, 0.1062), (1.975, 0.1073),
+            // Ellipsoid
+            (1.2, 0.111), (1.25, 0.1298), (1.3, 0.14), (1.4, 0.1478), (1.5, 0.1509), (1.6, 0.1523),
+            (1.8, 0.1552), (2.0, 0.1576), (2.4, 0.1601), (2.8, 0.1601), (3.2, 0.16), (3.587, 0.158),
+            // LvHaack
+            (0.8, 0.0), (0.85, 0.0), (0.9, 0.0), (0.915, 0.0), (0.95, 0.0077), (1.0, 0.0253),
+            (1.05, 0.065), (1.1, 0.0847), (1.15, 0.095), (1.2, 0.1002), (1.25, 0.1028),
+            (1.3, 0.107), (1.4, 0.1135), (1.5, 0.1156), (1.6, 0.117), (1.617, 0.1172),
+            (1.8, 0.1155), (1.977, 0.1115),
+            // VonKarman
+            (0.8, 0.0), (0.85, 0.0), (0.9, 0.0), (0.915, 0.0), (0.95, 0.0077), (1.0, 0.0253),
+            (1.05, 0.0581), (1.1, 0.0694), (1.15, 0.0734), (1.2, 0.0758), (1.25, 0.0779),
+            (1.3, 0.0825), (1.4, 0.0879), (1.5, 0.0893), (1.553, 0.0898), (1.6, 0.0898),
+            (1.8, 0.0869), (1.994, 0.0794),
+        ]
+    };
+}
 
-// The pressure drag on the base area at the same places.
-pub const DRAG: [f64; 149] = [
-    // PowerQuarter
-    0.141, 0.148, 0.1558, 0.1689, 0.1809, 0.1894, 0.2051, 0.2165, 0.2331, 0.2441, 0.248, 0.2491,
-    // PowerHalf
-    0.0, 0.0, 0.0, 0.0, 0.0069, 0.046, 0.0597, 0.0573, 0.0675, 0.08, 0.0853, 0.0851, 0.0847,
-    0.0856, 0.086, 0.0885, 0.0898,
-    // PowerThreeQuarters
-    0.0, 0.0, 0.0, 0.0131, 0.0375, 0.0848, 0.1185, 0.1185, 0.1095, 0.1089, 0.109, 0.1032, 0.1001,
-    0.097, 0.0932, 0.09, 0.0847, 0.0789,
-    // ParabolaHalf
-    0.0, 0.0, 0.0057, 0.0155, 0.0403, 0.094, 0.1231, 0.1247, 0.1235, 0.1149, 0.1139, 0.1068,
-    0.1009, 0.0936, 0.0877, 0.0854, 0.0854, 0.0864,
-    // ParabolaThreeQuarters
-    0.0, 0.0, 0.0, 0.0, 0.0182, 0.069, 0.0889, 0.1049, 0.1078, 0.1072, 0.1036, 0.0997, 0.0932,
-    0.0861, 0.082, 0.0817, 0.0797, 0.0814,
-    // Parabola
-    0.0, 0.0, 0.0, 0.0, 0.0, 0.037, 0.0898, 0.1073, 0.1149, 0.1162, 0.1161, 0.1145, 0.1134, 0.1103,
-    0.1078, 0.1067, 0.1062, 0.1073,
-    // Ellipsoid
-    0.111, 0.1298, 0.14, 0.1478, 0.1509, 0.1523, 0.1552, 0.1576, 0.1601, 0.1601, 0.16, 0.158,
-    // LvHaack
-    0.0, 0.0, 0.0, 0.0, 0.0077, 0.0253, 0.065, 0.0847, 0.095, 0.1002, 0.1028, 0.107, 0.1135,
-    0.1156, 0.117, 0.1172, 0.1155, 0.1115,
-    // VonKarman
-    0.0, 0.0, 0.0, 0.0, 0.0077, 0.0253, 0.0581, 0.0694, 0.0734, 0.0758, 0.0779, 0.0825, 0.0879,
-    0.0893, 0.0898, 0.0898, 0.0869, 0.0794,
-];
+macro_rules! points {
+    ($(($mach:literal, $drag:literal),)*) => { [$(StoredPoint { mach: $mach, drag: $drag }),*] };
+}
+
+macro_rules! machs {
+    ($(($mach:literal, $drag:literal),)*) => { [$($mach),*] };
+}
+
+macro_rules! drags {
+    ($(($mach:literal, $drag:literal),)*) => { [$($drag),*] };
+}
+
+// The points of all nine tables.
+static TABLE: [StoredPoint; POINTS] = all_points!(points);
+
+// The Mach numbers of all points, for whoever reads them by place alone.
+pub const MACH: [f64; POINTS] = all_points!(machs);
+
+// The drag at the same places.
+pub const DRAG: [f64; POINTS] = all_points!(drags);
 
 // A nose that Stoney measured, in the order of the Rust's `ALL`.
-#[derive(Clone, Copy)]
+#[derive(Clone, Copy, Debug, PartialEq, Eq)]
 pub enum StoneyNose {
     // Power series x^1/4.
     PowerQuarter,
@@ -95,105 +108,124 @@ pub enum StoneyNose {
     VonKarman,
 }
 
-// The places of one nose's points in the two arrays: `count` of them from `first` on.
-#[derive(Clone, Copy)]
+// The places of one nose's points in the table: `count` of them from `first` on.
+#[derive(Clone, Copy, Debug, PartialEq, Eq)]
 pub struct PointRange {
     pub first: usize,
     pub count: usize,
 }
 
+// A stored point: a Mach number, and the pressure drag there.
+#[derive(Clone, Copy, Debug, PartialEq)]
+pub struct StoredPoint {
+    pub mach: f64,
+    pub drag: f64,
+}
+
 // A pressure drag coefficient and its slope in Mach.
-#[derive(Clone, Copy)]
+#[derive(Clone, Copy, Debug, PartialEq)]
 pub struct ValueAndSlope {
     pub value: f64,
     pub slope: f64,
 }
 
-// The Mach number at a place of the array, and +0 past its end.
+// The Mach number at a place of the table, and +0 past its end.
 pub fn mach_at(place: usize) -> f64
     ensures { result ≡ mach_at place }
 {
-    if place < POINTS { MACH[place] } else { 0.0 }
+    if place < POINTS {
+        TABLE[place].mach
+    } else {
+        0.0
+    }
 }
 
-// The drag at a place of the array, and +0 past its end.
+// The drag at a place of the table, and +0 past its end.
 pub fn drag_at(place: usize) -> f64
     ensures { result ≡ drag_at place }
 {
-    if place < POINTS { DRAG[place] } else { 0.0 }
+    if place < POINTS {
+        TABLE[place].drag
+    } else {
+        0.0
+    }
+}
+
+impl StoredPoint {
+    // Below this point, the first of its table.
+    pub fn run_down(self, mach: f64) -> ValueAndSlope
+        ensures { result ≡ before self mach }
+    {
+        if self.mach > SUBSONIC_MACH_LIMIT {
+            if mach >= SUBSONIC_MACH_LIMIT {
+                let slope = self.drag / (self.mach - SUBSONIC_MACH_LIMIT);
+                ValueAndSlope {
+                    value: slope * (mach - SUBSONIC_MACH_LIMIT),
+                    slope,
+                }
+            } else {
+                ValueAndSlope {
+                    value: 0.0,
+                    slope: 0.0,
+                }
+            }
+        } else {
+            ValueAndSlope {
+                value: self.drag,
+                slope: 0.0,
+            }
+        }
+    }
+
+    // On the line from this point to the next one.
+    pub fn line_to(self, next: StoredPoint, mach: f64) -> ValueAndSlope
+        ensures { result ≡ line self next mach }
+    {
+        let slope = (next.drag - self.drag) / (next.mach - self.mach);
+        ValueAndSlope {
+            value: self.drag + slope * (mach - self.mach),
+            slope,
+        }
+    }
 }
 
 // Below the first point (m, c).
 pub fn before_first(m: f64, c: f64, mach: f64) -> ValueAndSlope
     ensures { result ≡ before (record { mach = m; drag = c }) mach }
 {
-    if m > SUBSONIC_MACH_LIMIT {
-        if mach >= SUBSONIC_MACH_LIMIT {
-            let slope = c / (m - SUBSONIC_MACH_LIMIT);
-            ValueAndSlope {
-                value: slope * (mach - SUBSONIC_MACH_LIMIT),
-                slope,
-            }
-        } else {
-            ValueAndSlope {
-                value: 0.0,
-                slope: 0.0,
-            }
-        }
-    } else {
-        ValueAndSlope {
-            value: c,
-            slope: 0.0,
-        }
-    }
+    StoredPoint { mach: m, drag: c }.run_down(mach)
 }
 
 // On the line from (m0, c0) to (m1, c1).
 pub fn on_line(m0: f64, c0: f64, m1: f64, c1: f64, mach: f64) -> ValueAndSlope
     ensures { result ≡ line (record { mach = m0; drag = c0 }) (record { mach = m1; drag = c1 }) mach }
 {
-    let slope = (c1 - c0) / (m1 - m0);
-    ValueAndSlope {
-        value: c0 + slope * (mach - m0),
-        slope,
-    }
+    StoredPoint { mach: m0, drag: c0 }.line_to(StoredPoint { mach: m1, drag: c1 }, mach)
 }
 
-// What the `count` points from `first` on say at `mach`: they are walked up to the first one above it. A NaN has no point above it.
-fn walk_points(
-    machs: &[f64; 149],
-    drags: &[f64; 149],
-    first: usize,
-    count: usize,
-    mach: f64,
-) -> ValueAndSlope
-    requires { Stored first count }
-    ensures { result ≡ lookup (stretch machs.now drags.now first count) mach }
+// What these points say at `mach`: they are walked up to the first one above it. A NaN has no point above it.
+fn walk_points(points: &[StoredPoint], mach: f64) -> ValueAndSlope
+    requires { 0 < length points.now }
+    ensures { result ≡ lookup points.now mach }
 {
-    let mut m0 = machs[first];
-    let mut c0 = drags[first];
-    if mach < m0 {
-        return before_first(m0, c0, mach);
+    let mut last = points[0];
+    if mach < last.mach {
+        return last.run_down(mach);
     }
-    let mut place = 1;
-    while place < count {
-        let m1 = machs[first + place];
-        let c1 = drags[first + place];
-        if mach < m1 {
-            return on_line(m0, c0, m1, c1, mach);
+    for next in &points[1..] {
+        if mach < next.mach {
+            return last.line_to(*next, mach);
         }
-        m0 = m1;
-        c0 = c1;
-        place += 1;
+        last = *next;
     }
     ValueAndSlope {
-        value: c0,
+        value: last.drag,
         slope: 0.0,
     }
 }
 
 impl StoneyNose {
-    // The nose of a number, in the order of the Rust's `ALL`; a number above 8 counts as 8.
+    // The nose of a number, in the order of the Rust's `ALL`; a number above 8 counts as 8. `try_from` refuses it.
     pub fn of_number(number: u64) -> StoneyNose
         ensures { result ≡ nose_at number }
     {
@@ -210,7 +242,7 @@ impl StoneyNose {
         }
     }
 
-    // Where the nose's points stand in the two arrays.
+    // Where the nose's points stand in the table.
     pub fn points(self) -> PointRange
         ensures { result ≡ range_of self }
     {
@@ -254,22 +286,20 @@ impl StoneyNose {
         }
     }
 
+    // The nose's points.
+    pub fn table(self) -> &'static [StoredPoint]
+        ensures points { result.now ≡ points self }
+        ensures some { 0 < length result.now }
+    {
+        let range = self.points();
+        &TABLE[range.first..range.first + range.count]
+    }
+
     // The first Mach number of the nose's table.
     pub fn first_mach(self) -> f64
         ensures { result ≡ first_mach self }
     {
-        // With constant places the compiler reads the number off, and no array is left to copy.
-        match self {
-            StoneyNose::PowerQuarter => mach_at(0),
-            StoneyNose::PowerHalf => mach_at(12),
-            StoneyNose::PowerThreeQuarters => mach_at(29),
-            StoneyNose::ParabolaHalf => mach_at(47),
-            StoneyNose::ParabolaThreeQuarters => mach_at(65),
-            StoneyNose::Parabola => mach_at(83),
-            StoneyNose::Ellipsoid => mach_at(101),
-            StoneyNose::LvHaack => mach_at(113),
-            StoneyNose::VonKarman => mach_at(131),
-        }
+        self.table()[0].mach
     }
 
     // The table's value and slope at `mach`: linear between the points, with the segment to the right at a point; the last value held past the
@@ -277,19 +307,42 @@ impl StoneyNose {
     pub fn value_and_slope(self, mach: f64) -> ValueAndSlope
         ensures { result ≡ value_and_slope self mach }
     {
-        let machs = MACH;
-        let drags = DRAG;
-        // Each nose's walk has its own constant range, so that the compiler unrolls it and no array is left to copy.
+        // Each nose's walk has its own table, so that the compiler unrolls it: by `self.table()` lookups in one nose take a seventh longer.
         match self {
-            StoneyNose::PowerQuarter => walk_points(&machs, &drags, 0, 12, mach),
-            StoneyNose::PowerHalf => walk_points(&machs, &drags, 12, 17, mach),
-            StoneyNose::PowerThreeQuarters => walk_points(&machs, &drags, 29, 18, mach),
-            StoneyNose::ParabolaHalf => walk_points(&machs, &drags, 47, 18, mach),
-            StoneyNose::ParabolaThreeQuarters => walk_points(&machs, &drags, 65, 18, mach),
-            StoneyNose::Parabola => walk_points(&machs, &drags, 83, 18, mach),
-            StoneyNose::Ellipsoid => walk_points(&machs, &drags, 101, 12, mach),
-            StoneyNose::LvHaack => walk_points(&machs, &drags, 113, 18, mach),
-            StoneyNose::VonKarman => walk_points(&machs, &drags, 131, 18, mach),
+            StoneyNose::PowerQuarter => walk_points(StoneyNose::PowerQuarter.table(), mach),
+            StoneyNose::PowerHalf => walk_points(StoneyNose::PowerHalf.table(), mach),
+            StoneyNose::PowerThreeQuarters => walk_points(
+                StoneyNose::PowerThreeQuarters.table(),
+                mach,
+            ),
+            StoneyNose::ParabolaHalf => walk_points(StoneyNose::ParabolaHalf.table(), mach),
+            StoneyNose::ParabolaThreeQuarters => walk_points(
+                StoneyNose::ParabolaThreeQuarters.table(),
+                mach,
+            ),
+            StoneyNose::Parabola => walk_points(StoneyNose::Parabola.table(), mach),
+            StoneyNose::Ellipsoid => walk_points(StoneyNose::Ellipsoid.table(), mach),
+            StoneyNose::LvHaack => walk_points(StoneyNose::LvHaack.table(), mach),
+            StoneyNose::VonKarman => walk_points(StoneyNose::VonKarman.table(), mach),
+        }
+    }
+}
+
+// A number that is no nose's.
+#[derive(Clone, Copy, Debug, PartialEq, Eq)]
+pub struct NoSuchNose;
+
+impl TryFrom<u32> for StoneyNose {
+    type Error = NoSuchNose;
+
+    ghost try_from_gives = { λ number r. OkIff r (number ≤ 8) (nose_at number) };
+
+    // The nose of a number from 0 to 8, in the order of the Rust's `ALL`.
+    fn try_from(number: u32) -> Result<StoneyNose, NoSuchNose> {
+        if number <= 8 {
+            Ok(StoneyNose::of_number(u64::from(number)))
+        } else {
+            Err(NoSuchNose)
         }
     }
 }

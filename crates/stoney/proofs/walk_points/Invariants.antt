@@ -1,13 +1,7 @@
--- The loop of `walk_points`: the definition's walk goes on from the point (m0, c0) through the points from `place` on.
-use Prim.Native.Nat.{◌+◌, ◌-◌, ◌≤◌}
-use mathlib.Core.Path.{◌≡◌}
+-- The loop of `walk_points`: the definition's walk goes on from the last point passed through the points that are left.
+use Rattle.std.proofs.Common.{◌≡◌, drop}
 use Rattle.stoney.specs.Lookup.{walk, lookup}
-use Rattle.stoney.specs.Stored.{stretch}
 use Rattle.stoney.proofs.walk_points.Given as goal
 
-abbrev pub invariant-loop-place : goal.invariant-loop-place
-invariant-loop-place l = (l.place ≤ l.count)
-    × (lookup (stretch l.machs l.drags l.first l.count) l.mach ≡ walk (record { mach = l.m0; drag = l.c0 }) (stretch l.machs l.drags (l.first + l.place) (l.count - l.place)) l.mach)
-
-abbrev pub decreases-loop-place : goal.decreases-loop-place
-decreases-loop-place l = l.count - l.place
+abbrev pub invariant-loop-next : goal.invariant-loop-next
+invariant-loop-next l = lookup l.points l.mach ≡ walk l.last (drop l.next-index l.next-items) l.mach
