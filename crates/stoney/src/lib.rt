@@ -307,7 +307,7 @@ impl StoneyNose {
     pub fn value_and_slope(self, mach: f64) -> ValueAndSlope
         ensures { result ≡ value_and_slope self mach }
     {
-        // Each nose's walk has its own table, so that the compiler unrolls it: of `self.table()` a lookup takes a seventh longer.
+        // Each nose's walk has its own table, so that the compiler unrolls it: by `self.table()` lookups in one nose take a seventh longer.
         match self {
             StoneyNose::PowerQuarter => walk_points(StoneyNose::PowerQuarter.table(), mach),
             StoneyNose::PowerHalf => walk_points(StoneyNose::PowerHalf.table(), mach),
