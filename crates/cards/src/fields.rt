@@ -38,7 +38,8 @@ fn number_at(s: &[u8], at: usize) -> f64
     elementary::from_bits(u64::from_le_bytes(*s[at..].first_chunk().unwrap()))
 }
 
-// One of the two floats of each of n columns, in an array for as many as there may be.
+// One of the two floats of each of n columns, in an array for as many as there may be. It begins where
+// its first float does, which for the second of a pair is not where a reader stands.
 #[tactic(auto, using(crate::proofs::Numbers::slot_filled), unfolding(crate::specs::Fields::numbers_at))]
 pub(crate) fn numbers_at(n: usize, s: &[u8], at: usize) -> [f64; COLUMNS]
     requires { (n ≤ most_columns) × (at + pair_bytes * n ≤ length s.now + number_bytes) }
