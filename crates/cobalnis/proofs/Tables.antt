@@ -5,9 +5,10 @@ use lib.Ieee.{Float, to_bits, of_bits, binary64}
 use Rattle.elementary.specs.Constants.{0·0}
 use mathlib.Core.Bool.{Bool, true, false, cond}
 use Rattle.aero_error.specs.declared.Quantity.{Quantity}
+use Rattle.aero_error.specs.declared.Quantity.TheVariants.{Mach, Fineness, JointAngle, PowerExponent, ParabolicParameter, HaackParameter, EllipsoidFineness, EllipsoidMach, OgiveKappa, FinenessThreeDrag, BluntDrag, TransonicLowerBound, DragAtRest, DragAtLowerBound, SlopeAtLowerBound, MachBelowLowerBound, Reynolds, Roughness, BodyFineness, BoattailLength, BoattailAft, BoattailFore}
 use Rattle.aero_error.specs.Refusals.{code_of_quantity}
 use Rattle.aero_error.specs.Checks.{required}
-use Rattle.cobalnis.specs.Answers.{answer_status, answer_bits, tested}
+use Rattle.cobalnis.specs.Answers.{answer_status, answer_bits, tested, is_code}
 
 -- the bits of +0
 pub zero_bits : to_bits binary64 0·0 ≡ 0
@@ -22,3 +23,28 @@ required_status false what value code e = ap (λ (k : ℕ). 1 + 256 * k) e
 pub required_bits : (ok : Bool) (what : Quantity) (value : Float) → answer_bits (tested (required ok what value)) ≡ cond ok 0 (to_bits binary64 value)
 required_bits true what value = zero_bits
 required_bits false what value = refl
+
+-- every quantity has a code
+pub code_known : (what : Quantity) → is_code (code_of_quantity what) ≡ true
+code_known Mach = refl
+code_known Fineness = refl
+code_known JointAngle = refl
+code_known PowerExponent = refl
+code_known ParabolicParameter = refl
+code_known HaackParameter = refl
+code_known EllipsoidFineness = refl
+code_known EllipsoidMach = refl
+code_known OgiveKappa = refl
+code_known FinenessThreeDrag = refl
+code_known BluntDrag = refl
+code_known TransonicLowerBound = refl
+code_known DragAtRest = refl
+code_known DragAtLowerBound = refl
+code_known SlopeAtLowerBound = refl
+code_known MachBelowLowerBound = refl
+code_known Reynolds = refl
+code_known Roughness = refl
+code_known BodyFineness = refl
+code_known BoattailLength = refl
+code_known BoattailAft = refl
+code_known BoattailFore = refl

@@ -49,6 +49,7 @@ pub fn cobalnis_open(words: &mut [u64; SHEET_WORDS], cells: &mut [f64], bits: &m
     show(outcome, sheet, words, bits)
 }
 
+#[tactic(auto, using(crate::proofs::Tables::zero_bits))]
 pub fn cobalnis_insert(
     words: &mut [u64; SHEET_WORDS],
     place: usize,
@@ -66,6 +67,7 @@ pub fn cobalnis_insert(
     refuse(AeroError::Broken(Rule::ReservedBit), bits)
 }
 
+#[tactic(auto, using(crate::proofs::Tables::zero_bits))]
 pub fn cobalnis_replace(
     words: &mut [u64; SHEET_WORDS],
     place: usize,
@@ -83,6 +85,7 @@ pub fn cobalnis_replace(
     refuse(AeroError::Broken(Rule::ReservedBit), bits)
 }
 
+#[tactic(auto, using(crate::proofs::Tables::zero_bits))]
 pub fn cobalnis_remove(
     words: &mut [u64; SHEET_WORDS],
     place: usize,
@@ -99,6 +102,7 @@ pub fn cobalnis_remove(
     refuse(AeroError::Broken(Rule::ReservedBit), bits)
 }
 
+#[tactic(auto, using(crate::proofs::Tables::zero_bits))]
 pub fn cobalnis_set_column(
     words: &mut [u64; SHEET_WORDS],
     column: usize,
@@ -117,6 +121,7 @@ pub fn cobalnis_set_column(
     refuse(AeroError::Broken(Rule::ReservedBit), bits)
 }
 
+#[tactic(auto, using(crate::proofs::Tables::zero_bits))]
 pub fn cobalnis_ignite(
     words: &mut [u64; SHEET_WORDS],
     nozzle_diameter: f64,
@@ -133,6 +138,7 @@ pub fn cobalnis_ignite(
     refuse(AeroError::Broken(Rule::ReservedBit), bits)
 }
 
+#[tactic(auto, using(crate::proofs::Tables::zero_bits))]
 pub fn cobalnis_burnout(words: &mut [u64; SHEET_WORDS], cells: &mut [f64], bits: &mut u64) -> u32
     ensures { CallDone (sheet_known words.old) burnout_call words.old cells.old result words.new bits.new cells.new }
 {

@@ -1,19 +1,15 @@
 -- When a stored line agrees: it can be read, and its status and words are those that the definitions give at its arguments.
-use Rattle.std.specs.Prelude.{ℕ, Bool, true, false, cond, ◌&&◌, List, [], ◌∷◌, eqb, ltb, get_or, Float, Option, Some, None}
+use Rattle.std.specs.Prelude.{ℕ, Bool, true, false, cond, ◌&&◌, List, [], ◌∷◌, eqb, ltb, get_or, Float, Option, Some, None, Ok, Err}
+use Rattle.aero_error.specs.Checks.{dimension, Check}
+use Rattle.nose_drag.specs.Curves.{takes_cone_formula, Curve}
 use Rattle.std.specs.Float.Ieee.{to_bits}
 use Rattle.std.specs.Float.{binary64}
 use Rattle.elementary.specs.Arithmetic.{bits}
 use Rattle.elementary.specs.Constants.{0·0}
-use Rattle.aero_error.specs.declared.Check.{Check}
-use Rattle.aero_error.specs.declared.Check.TheVariants.{Passed, Failed}
-use Rattle.aero_error.specs.Checks.{dimension}
 use Rattle.aero_error.specs.Refusals.{refused_value}
 use Rattle.drag.specs.Friction.{mach_checked}
 use Rattle.shapes.specs.Numbers.{shape_of}
 use Rattle.nose_drag.specs.declared.curve.PressureDragCurve.{PressureDragCurve}
-use Rattle.nose_drag.specs.declared.builder.Curve.{Curve}
-use Rattle.nose_drag.specs.declared.builder.Curve.TheVariants.{Built, Refused as NotBuilt}
-use Rattle.nose_drag.specs.Curves.{takes_cone_formula}
 use Rattle.cobalnis.specs.Answers.{status_of, no_such, formula_of, formula_status, formula_bits, dimension_status, dimension_bits, is_nose, point_status, point_words, lookup_words, curve_from, coefficient_bits, about}
 use Rattle.replay.specs.declared.Counts.{Counts}
 use Rattle.replay.specs.Counts.{counted}
@@ -69,14 +65,14 @@ lookup_at line =
 
 -- a curve that is built, at a Mach
 abbrev pub read_answer : Check → PressureDragCurve → Float → List ℕ
-read_answer Passed curve M = 0 ∷ coefficient_bits curve M ∷ about 0·0 curve
-read_answer (Failed e) curve M = status_of e ∷ 0 ∷ about (refused_value e) curve
+read_answer (Ok _) curve M = 0 ∷ coefficient_bits curve M ∷ about 0·0 curve
+read_answer (Err e) curve M = status_of e ∷ 0 ∷ about (refused_value e) curve
 
 -- a shape's number above 6 names none
 abbrev pub curve_answer : Bool → Curve → Float → List ℕ
 curve_answer true curve M = no_such ∷ 0 ∷ 0 ∷ 0 ∷ 0 ∷ []
-curve_answer false (NotBuilt e) M = status_of e ∷ 0 ∷ to_bits binary64 (refused_value e) ∷ 0 ∷ 0 ∷ []
-curve_answer false (Built curve) M = read_answer (mach_checked M) curve M
+curve_answer false (Err e) M = status_of e ∷ 0 ∷ to_bits binary64 (refused_value e) ∷ 0 ∷ 0 ∷ []
+curve_answer false (Ok curve) M = read_answer (mach_checked M) curve M
 
 unfoldable pub curve_words : ℕ → Float → Float → Float → Float → List ℕ
 curve_words shape parameter fineness angle M = curve_answer (ltb 6 shape) (curve_from shape parameter fineness angle) M

@@ -1,16 +1,15 @@
 -- The values of docs/REFERENCE.md, Values, that are shown by a theorem, the starred ones: each row is a definition's answer and the answer that is given there,
 -- and one theorem computes them all. A layer above adds its rows to `starred`.
-use Rattle.std.specs.Prelude.{ℕ, ◌≡◌, refl, false, List, [], ◌∷◌, ◌++◌, map, Float}
+use Rattle.std.specs.Prelude.{ℕ, ◌≡◌, refl, false, List, [], ◌∷◌, ◌++◌, map, Float, Ok, Err}
+use Rattle.aero_error.specs.Checks.{dimension, Coefficient}
+use Rattle.nose_drag.specs.Curves.{coefficient_of, step_curve, from_transonic, new_curve, build, recorded, Curve}
 use Rattle.std.specs.Float.{binary64, nan, inf}
 use Rattle.std.specs.Float.Ieee.{add, sub, mul, div, sum, round, neg, lt, le, eq, of_bits, of_int, is_nan}
 use Rattle.elementary.specs.Arithmetic.{whole, bits}
 use Rattle.elementary.specs.Steps.{LN, POW, pow_steps, ln_steps, ln_sum}
 use Rattle.elementary.specs.Split.{split_of}
 use Rattle.elementary.specs.Tests.{between}
-use Rattle.aero_error.specs.declared.Coefficient.{Coefficient}
-use Rattle.aero_error.specs.declared.Coefficient.TheVariants.{Value, Refused}
 use Rattle.aero_error.specs.Refusals.{number_of, code_of}
-use Rattle.aero_error.specs.Checks.{dimension}
 use Rattle.elementary.specs.Constants.{0·0, 0·5, 0·8, 1·0}
 use Rattle.drag.specs.Constants.{0·0148, 0·12, 0·25, 0·85, 3·0}
 use Rattle.drag.specs.Friction.{mach_checked, turbulent_friction, critical_reynolds, incompressible, compressible, friction_on, skin_friction_coefficient}
@@ -20,12 +19,9 @@ use Rattle.stoney.specs.declared.StoneyNose.TheVariants.{Ellipsoid}
 use Rattle.stoney.specs.Points.{points}
 use Rattle.stoney.specs.Lookup.{value_and_slope, lookup, walk, before, line}
 use Rattle.nose_drag.specs.declared.curve.PressureDragCurve.{PressureDragCurve}
-use Rattle.nose_drag.specs.declared.builder.Curve.{Curve}
-use Rattle.nose_drag.specs.declared.builder.Curve.TheVariants.{Built, Refused as NotBuilt}
 use Rattle.nose_drag.specs.Forms.{blunt, stagnation_drag_slope}
 use Rattle.nose_drag.specs.Below.{fitted, fit_with, rest_with, fit_of, quadratic_at}
 use Rattle.nose_drag.specs.Methods.{fineness_scaled_pressure_drag}
-use Rattle.nose_drag.specs.Curves.{coefficient_of, step_curve, from_transonic, new_curve, build, recorded}
 
 -- an answer as it is written there: a value, a curve, or a refusal's number and its code
 pub data Answer : Type 0 where
@@ -34,12 +30,12 @@ pub data Answer : Type 0 where
   refusal : ℕ → ℕ → Answer
 
 abbrev pub answer : Coefficient → Answer
-answer (Value x) = value x
-answer (Refused e) = refusal (number_of e) (code_of e)
+answer (Ok x) = value x
+answer (Err e) = refusal (number_of e) (code_of e)
 
 abbrev pub built : Curve → Answer
-built (Built c) = curve c
-built (NotBuilt e) = refusal (number_of e) (code_of e)
+built (Ok c) = curve c
+built (Err e) = refusal (number_of e) (code_of e)
 
 abbrev pub Row : Type 0
 Row = Answer × Answer

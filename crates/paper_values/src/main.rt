@@ -2,9 +2,9 @@
 // in specs/.
 #![tactic(auto)]
 
-use aero_error::Coefficient;
+use aero_error::AeroError;
 use drag::joint_pressure_drag_coefficient;
-use nose_drag::{Curve, PressureDragCurve};
+use nose_drag::PressureDragCurve;
 use shapes::NoseShape;
 
 // The descriptor of standard output.
@@ -20,27 +20,19 @@ fn write_number(n: u8) {
 }
 
 // What was asked, and whether a value or which refusal came.
-fn write_line(asked: &[u8], answer: Coefficient) {
+fn write_line<T: Drop>(asked: &[u8], answer: Result<T, AeroError>) {
     io::write_all(STDOUT_FILENO, asked);
     match answer {
-        Coefficient::Value(_) => {
+        Ok(_) => {
             io::write_all(STDOUT_FILENO, b" passes\n");
         }
-        Coefficient::Refused(refusal) => {
+        Err(refusal) => {
             io::write_all(STDOUT_FILENO, b" refused ");
             write_number(refusal.number());
             io::write_all(STDOUT_FILENO, b" code ");
             write_number(refusal.code());
             io::write_all(STDOUT_FILENO, b"\n");
         }
-    }
-}
-
-// The same for a curve that is built or refused.
-fn write_curve(asked: &[u8], curve: Curve) {
-    match curve {
-        Curve::Built(_) => write_line(asked, Coefficient::Value(0.0)),
-        Curve::Refused(refusal) => write_line(asked, Coefficient::Refused(refusal)),
     }
 }
 
@@ -52,11 +44,11 @@ fn write_haack() {
     let above = NoseShape::Haack {
         parameter: elementary::from_bits(0x3fd5555555555556),
     };
-    write_curve(
+    write_line(
         b"Haack 3fd5555555555555",
         PressureDragCurve::new(third, 3.0, 0.0),
     );
-    write_curve(
+    write_line(
         b"Haack 3fd5555555555556",
         PressureDragCurve::new(above, 3.0, 0.0),
     );

@@ -1,4 +1,7 @@
 -- `formula_vectors::curve` meets its contract.
+use Rattle.std.specs.Prelude.{Ok, Err}
+use Rattle.aero_error.specs.Checks.{up_to, Check}
+use Rattle.nose_drag.specs.Curves.{Curve}
 use mathlib.Core.Path.{◌≡◌, ◌∙◌}
 use mathlib.Core.Bool.{Bool, true, false}
 use mathlib.Core.List.{List, [], ◌∷◌}
@@ -6,13 +9,8 @@ use Prim.Native.Nat.{ℕ}
 use lib.Dec.{ltb}
 use lib.ListN.{get_or}
 use lib.Ieee.{Float}
-use Rattle.aero_error.specs.declared.Check.{Check}
-use Rattle.aero_error.specs.declared.Check.TheVariants.{Passed, Failed}
 use Rattle.drag.specs.Friction.{mach_checked, machs_test}
-use Rattle.aero_error.specs.Checks.{up_to}
 use Rattle.nose_drag.specs.declared.curve.PressureDragCurve.{PressureDragCurve}
-use Rattle.nose_drag.specs.declared.builder.Curve.{Curve}
-use Rattle.nose_drag.specs.declared.builder.Curve.TheVariants.{Built, Refused as NotBuilt}
 use Rattle.cobalnis.specs.Words.{spread}
 use Rattle.cobalnis.specs.Answers.{curve_from, ReadAt, CurveAnswered}
 use Rattle.formula_vectors.specs.Lines.{read_answer, curve_answer, curve_words, curve_at}
@@ -25,15 +23,15 @@ five r ys said = r ∷ get_or ys 0 0 ∷ get_or said 0 0 ∷ get_or said 1 0 ∷
 read_words : (t : Check) (curve : PressureDragCurve) (M : Float) (r : ℕ) (ys said : List ℕ)
     → ReadAt t curve (M ∷ []) (0 ∷ []) r ys said → five r ys said ≡ read_answer t curve M
 unfolding spread
-read_words Passed curve M r ys said (a, b, d) = rw (a, b, d)
-read_words (Failed e) curve M r ys said (a, b, d) = rw (a, b, d)
+read_words (Ok _) curve M r ys said (a, b, d) = rw (a, b, d)
+read_words (Err e) curve M r ys said (a, b, d) = rw (a, b, d)
 
 answer_words : (none : Bool) (curve : Curve) (M : Float) (r : ℕ) (ys said : List ℕ)
     → CurveAnswered none curve (M ∷ []) (0 ∷ []) (0 ∷ 0 ∷ 0 ∷ []) r ys said → five r ys said ≡ curve_answer none curve M
 unfolding machs_test up_to
 answer_words true curve M r ys said (a, b, d) = rw (a, b, d)
-answer_words false (NotBuilt e) M r ys said (a, b, d) = rw (a, b, d)
-answer_words false (Built curve) M r ys said h = read_words (mach_checked M) curve M r ys said h
+answer_words false (Err e) M r ys said (a, b, d) = rw (a, b, d)
+answer_words false (Ok curve) M r ys said h = read_words (mach_checked M) curve M r ys said h
 
 words_shown : (shape : ℕ) (parameter fineness angle M : Float) (r : ℕ) (ys said : List ℕ)
     → CurveAnswered (ltb 6 shape) (curve_from shape parameter fineness angle) (M ∷ []) (0 ∷ []) (0 ∷ 0 ∷ 0 ∷ []) r ys said
