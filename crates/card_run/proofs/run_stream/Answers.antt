@@ -45,7 +45,7 @@ returns c =
     let r = accepted_open c.open.ensures c.in_default.is in
     let ran = stream_opened a.s.now a.cells.now card (sym (card_read (goal.at.returns c).In-Ok)) refl r.0 in
     let same =
-        ran
-        ∙ ap (λ (z : Sheet). all_part_cards a.s.now card.next z (overwritten whole (contents_of (blank card.settings)) a.cells.now)) (sym r.1)
-        ∙ ap (λ (zs : List Float). all_part_cards a.s.now card.next c.open.new.sheet zs) (sym r.2) in
+    ran
+    ∙ ap (λ (z : Sheet). all_part_cards a.s.now card.next z (overwritten whole (contents_of (blank card.settings)) a.cells.now)) (sym r.1)
+    ∙ ap (λ (zs : List Float). all_part_cards a.s.now card.next c.open.new.sheet zs) (sym r.2) in
     subst (λ (z : Ran). Stopped z (run_stopped t.result t.new.sheet) t.new.cells) (sym same) t.ensures
