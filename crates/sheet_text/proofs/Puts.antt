@@ -1,20 +1,21 @@
--- Texts that are put into a buffer one after the other, and how long they are.
+-- Texts that are printed one after the other, and how long they are.
 use mathlib.Core.Path.{◌≡◌, refl, sym, ap, ◌∙◌}
 use mathlib.Core.Bool.{Bool, true, false, cond}
-use mathlib.Core.List.{List, [], ◌∷◌, ◌++◌}
+use mathlib.Core.List.{List, [], ◌∷◌, ◌++◌, append_assoc, append-nil}
 use Prim.Native.Nat.{ℕ, zero, suc, ◌+◌, ◌-◌, ◌*◌, ◌/◌, ◌%◌, ◌≤◌, ◌<◌}
-use native.Mathlib.Numerals.{add-one}
-use native.Mathlib.Nat.{add-sub_cancel_left, le_trans}
 use native.Mathlib.Omega.{arith}
-use lib.ListN.{length, set, take, drop, get_or, length-append, length-drop}
-use lib.Seq.{sets, set_comm, drop-cons, length-take-le, sets-eq, length-sets}
+use lib.ListN.{length, set, take, drop, get_or, length-append}
+use lib.Seq.{sets, sets-eq}
+use borrow.Rule.Slice.PartMut.{put_mid}
+use Rattle.std.proofs.Common.{drop-drop, zero-add, add-one}
+use Rattle.std.proofs.lemmas.List.{drop-set, length-take}
 use lib.Dec.{ltb}
 use borrow.Author.Tests.{lt-ltb, le-ltb}
 use lib.Ieee.{Float, to_bits, binary64}
-use Rattle.sheet_data.specs.Layout.{most_columns, finishes, all_rows, needed}
+use Rattle.sheet_data.specs.Layout.{most_columns}
 use Rattle.sheet_data.specs.Rows.{row_at}
-use Rattle.sheet_data.specs.RowLaws.{room}
-use Rattle.sheet_text.specs.Bytes.{digits, space, line_feed, hex_digit, hex_digits, decimal, Put}
+use Rattle.sheet_text.specs.declared.text.Text.{Text}
+use Rattle.sheet_text.specs.Bytes.{digits, line_feed, hex_digit, hex_digits, decimal, Prints}
 use Rattle.sheet_text.specs.Text.{number_text_size, part_text, most_text, number_text, numbers_text, line_text, part_word, part_name, part_lines, printed, Printed, answer_text}
 
 -- two texts, one after the other
@@ -24,41 +25,32 @@ sets_append (v ∷ vs) ws xs i =
     let e : suc i + length vs ≡ i + suc (length vs) = omega arith in
     sets_append vs ws (set xs i v) (suc i) ∙ ap (λ (k : ℕ). sets (sets (set xs i v) (suc i) vs) k ws) e
 
-pub put_then : (at m r : ℕ) (a b xs ys zs : List ℕ) → Put at a xs m ys → Put m b ys r zs → Put at (a ++ b) xs r zs
-put_then at m r a b xs ys zs p q =
+pub prints_then : {a b : List ℕ} {s t u : Text} → Prints a s t → Prints b t u → Prints (a ++ b) s u
+prints_then {a} {b} {s} {t} {u} p q =
     record {
+      same = q.same ∙ p.same;
+      long = q.long ∙ p.long;
       place = let l = length-append a b in omega (arith, p.place, q.place);
-      bytes = q.bytes ∙ ap (λ (k : ℕ). sets ys k b) p.place ∙ ap (λ (us : List ℕ). sets us (at + length a) b) p.bytes ∙ sym (sets_append a b xs at);
+      within = q.within;
+      bytes = q.bytes ∙ ap (λ (k : ℕ). sets t.out.now k b) p.place ∙ ap (λ (us : List ℕ). sets us (s.len + length a) b) p.bytes ∙ sym (sets_append a b s.out.now s.len);
     }
 
--- a store past a text can come first
-pub sets_set : (vs xs : List ℕ) (i j v : ℕ) → i + length vs ≤ j → set (sets xs i vs) j v ≡ sets (set xs j v) i vs
-sets_set [] xs i j v h = refl
-sets_set (a ∷ vs) xs i j v h =
-    sets_set vs (set xs i a) (suc i) j v (omega arith)
-    ∙ ap (λ (us : List ℕ). sets us (suc i) vs) (set_comm xs i j a v (λ e. omega arith))
+-- bytes that a part of a slice was made
+pub put_there : (at n : ℕ) (bs xs ys : List ℕ) → ys ≡ bs → n ≡ length bs → at + n ≤ length xs → put_mid at (at + n - at) xs ys ≡ sets xs at bs
+put_there at n bs xs ys e l h =
+    let k : at + n - at ≡ length bs = omega arith in
+    let m : at + length bs ≤ length xs = omega arith in
+    rw (e, k, drop-drop (length bs) at xs, sets-eq bs xs at m) (sym (append_assoc (take at xs) bs (drop (at + length bs) xs)))
 
--- ---- hexadecimal digits
+pub prints_none : (s : Text) → s.len ≤ length s.out.now → Prints [] s s
+prints_none s h = record { same = refl; long = refl; place = omega arith; within = h; bytes = refl }
+
+-- ---- lengths
 
 pub hex_long : (n x : ℕ) → length (hex_digits n x) ≡ n
 unfolding hex_digits
 hex_long zero x = refl
 hex_long (suc n) x = length-append (hex_digits n (x / 16)) (hex_digit (x % 16) ∷ []) ∙ ap (λ (k : ℕ). k + 1) (hex_long n (x / 16)) ∙ add-one n
-
--- the last digit is stored first
-pub hex_step : (n x at : ℕ) (xs : List ℕ) → 0 < n → sets xs at (hex_digits n x) ≡ sets (set xs (at + (n - 1)) (hex_digit (x % 16))) at (hex_digits (n - 1) (x / 16))
-unfolding hex_digits
-hex_step zero x at xs h = absurd (omega arith)
-hex_step (suc n) x at xs h =
-    let d = hex_digit (x % 16) in
-    let e : n ≡ suc n - 1 = omega arith in
-    let l = hex_long n (x / 16) in
-    sets_append (hex_digits n (x / 16)) (d ∷ []) xs at
-    ∙ ap (λ (k : ℕ). set (sets xs at (hex_digits n (x / 16))) (at + k) d) l
-    ∙ sets_set (hex_digits n (x / 16)) xs at (at + n) d (omega arith)
-    ∙ ap (λ (k : ℕ). sets (set xs (at + k) d) at (hex_digits k (x / 16))) e
-
--- ---- lengths
 
 pub number_long : (x : Float) → length (number_text x) ≡ number_text_size
 unfolding number_text
@@ -85,72 +77,65 @@ decimal_long n = by_test (ltb n 10)
     by_test true = omega arith
     by_test false = omega arith
 
--- ---- a loop that puts a text piece by piece
-
--- whatever puts the text that is left, from `at` on, puts the whole text, from `start` on
-pub record Putting (text xs : List ℕ) (start : ℕ) (left ys : List ℕ) (at : ℕ) : Type 0 where
-  pub same : length ys ≡ length xs
-  pub rest : (r : ℕ) (zs : List ℕ) → Put at left ys r zs → Put start text xs r zs
-
-pub none_put : (text xs : List ℕ) (start : ℕ) → Putting text xs start text xs start
-none_put text xs start = record { same = refl; rest = λ r zs p. p }
-
-module _ {text xs left ys : List ℕ} {start at : ℕ} (P : Putting text xs start left ys at) where
-  pub piece_put : (a b zs : List ℕ) (m : ℕ) → left ≡ a ++ b → Put at a ys m zs → length zs ≡ length ys → Putting text xs start b zs m
-  piece_put a b zs m e p l = record { same = l ∙ P.same; rest = λ r us q. P.rest r us (rw e (put_then at m r a b ys zs us p q)) }
-
-  pub all_put : left ≡ [] → Put start text xs at ys
-  all_put e = P.rest at ys (rw e (record { place = omega arith; bytes = refl }))
-
-pub first_byte : (name : List ℕ) (i : ℕ) → i < length name → drop i name ≡ (get_or name i 0 ∷ []) ++ drop (i + 1) name
-first_byte name i h = rw (drop-cons name i 0 h, add-one i)
-
-pub first_number : (row : List Float) (i : ℕ) (d : Float) → i < length row → numbers_text (drop i row) ≡ number_text (get_or row i d) ++ numbers_text (drop (i + 1) row)
-unfolding numbers_text
-first_number row i d h = rw (drop-cons row i d h, add-one i)
-
-pub first_part : (n place C : ℕ) (cells : List Float) → 0 < n → part_lines n place C cells ≡ line_text (part_name place) (row_at C cells place) ++ part_lines (n - 1) (place + 1) C cells
-unfolding part_lines
-first_part zero place C cells h = absurd (omega arith)
-first_part (suc n) place C cells h = let e : n ≡ suc n - 1 = omega arith in ap (λ (k : ℕ). line_text (part_name place) (row_at C cells place) ++ part_lines k (place + 1) C cells) e
-
--- ---- single texts
-
-pub decimal_one : (n at : ℕ) (xs : List ℕ) → n < 10 → Put at (decimal n) xs (at + 1) (set xs at (48 + n))
-unfolding decimal
-decimal_one n at xs h = rw (lt-ltb n 10 h) (record { place = refl; bytes = refl })
-
-pub decimal_two : (n at : ℕ) (xs : List ℕ) → 10 ≤ n → Put at (decimal n) xs (at + 2) (set (set xs at (48 + n / 10)) (at + 1) (48 + n % 10))
-unfolding decimal
-decimal_two n at xs h = rw (le-ltb n 10 h) (record { place = refl; bytes = rw (add-one at) })
-
-pub number_put : (at b r : ℕ) (x : Float) (xs ys : List ℕ) → b ≡ to_bits binary64 x → Put (at + 1) (hex_digits digits b) (set xs at space) r ys → Put at (number_text x) xs r ys
-unfolding number_text
-number_put at b r x xs ys e p =
-    record {
-      place = let k = number_long x in let l = hex_long digits b in omega (arith, p.place, k, l);
-      bytes = p.bytes ∙ ap (λ (k : ℕ). sets (set xs at space) k (hex_digits digits b)) (add-one at) ∙ ap (λ (k : ℕ). sets (set xs at space) (suc at) (hex_digits digits k)) e;
-    }
-
--- ---- rows of the cells
-
--- a row lies within the cells
-pub row_within : (row C cells : ℕ) → row < all_rows finishes → needed C ≤ cells → row * C + C ≤ cells
-row_within row C cells h k = le_trans (room row (all_rows finishes) C h) k
-
--- the cells from a row's first to its last
-pub row_cells : (from C : ℕ) (cells : List Float) → take (from + C - from) (drop from cells) ≡ take C (drop from cells)
-row_cells from C cells = ap (λ (k : ℕ). take k (drop from cells)) (add-sub_cancel_left from C)
-
-pub row_long : (from C : ℕ) (cells : List Float) → from + C ≤ length cells → length (take C (drop from cells)) ≡ C
-row_long from C cells h = length-take-le C (drop from cells) (simp length-drop (omega arith))
-
 pub part_long : (place : ℕ) (row : List Float) → length row ≤ most_columns → length (line_text (part_name place) row) ≤ part_text
 part_long place row h =
     let a = line_long (part_name place) row in
     let b = length-append part_word (decimal place) in
     let d = decimal_long place in
     omega (arith, a, b, d)
+
+-- ---- loops
+
+-- a loop from the last digit to the first: with n digits still to come it has those after them
+pub hex_step : (n x : ℕ) (out : List ℕ) → 0 < n → n ≤ length out → hex_digits n x ++ drop n out ≡ hex_digits (n - 1) (x / 16) ++ drop (n - 1) (set out (n - 1) (hex_digit (x % 16)))
+unfolding hex_digits
+hex_step zero x out h l = absurd (omega arith)
+hex_step (suc n) x out h l =
+    let e : suc n - 1 ≡ n = omega arith in
+    let i : n < length out = omega arith in
+    rw (e, drop-set out n (hex_digit (x % 16)) i, add-one n)
+    (append_assoc (hex_digits n (x / 16)) (hex_digit (x % 16) ∷ []) (drop (suc n) out))
+
+pub hex_end : (n x : ℕ) (out : List ℕ) → n ≡ 0 → hex_digits n x ++ drop n out ≡ out
+unfolding hex_digits
+hex_end n x out e = rw e
+
+-- a loop over numbers: one number more
+numbers_suc : (row : List Float) (i : ℕ) (d : Float) → i < length row → numbers_text (take (suc i) row) ≡ numbers_text (take i row) ++ number_text (get_or row i d)
+unfolding numbers_text
+numbers_suc [] i d h = absurd (omega arith)
+numbers_suc (x ∷ xs) zero d h = append-nil (number_text x)
+numbers_suc (x ∷ xs) (suc i) d h =
+    ap (λ (t : List ℕ). number_text x ++ t) (numbers_suc xs i d (omega arith))
+    ∙ sym (append_assoc (number_text x) (numbers_text (take i xs)) (number_text (get_or xs i d)))
+
+pub numbers_more : (row : List Float) (i : ℕ) (d : Float) → i < length row → numbers_text (take (i + 1) row) ≡ numbers_text (take i row) ++ number_text (get_or row i d)
+numbers_more row i d h = rw (add-one i) (numbers_suc row i d h)
+
+-- one part's line more
+parts_suc : (n place C : ℕ) (cells : List Float) → part_lines (suc n) place C cells ≡ part_lines n place C cells ++ line_text (part_name (place + n)) (row_at C cells (place + n))
+unfolding part_lines
+parts_suc zero place C cells =
+    let e : place ≡ place + 0 = omega arith in
+    append-nil _ ∙ ap (λ (k : ℕ). line_text (part_name k) (row_at C cells k)) e
+parts_suc (suc n) place C cells =
+    let line : ℕ → List ℕ = λ k. line_text (part_name k) (row_at C cells k) in
+    let e : place + 1 + n ≡ place + suc n = omega arith in
+    ap (λ (t : List ℕ). line place ++ t) (parts_suc n (place + 1) C cells ∙ ap (λ (k : ℕ). part_lines n (place + 1) C cells ++ line k) e)
+    ∙ sym (append_assoc (line place) (part_lines n (place + 1) C cells) (line (place + suc n)))
+
+pub parts_more : (n C : ℕ) (cells : List Float) → part_lines (n + 1) 0 C cells ≡ part_lines n 0 C cells ++ line_text (part_name n) (row_at C cells n)
+parts_more n C cells = rw (add-one n) (parts_suc n 0 C cells ∙ ap (λ (k : ℕ). part_lines n 0 C cells ++ line_text (part_name k) (row_at C cells k)) (zero-add n))
+
+pub parts_long : (n place C : ℕ) (cells : List Float) → C ≤ most_columns → length (part_lines n place C cells) ≤ part_text * n
+unfolding part_lines
+parts_long zero place C cells h = omega arith
+parts_long (suc n) place C cells h =
+    let row = row_at C cells place in
+    let a = length-append (line_text (part_name place) row) (part_lines n (place + 1) C cells) in
+    let b = part_long place row (omega (arith, length-take C (drop (place * C) cells))) in
+    let c = parts_long n (place + 1) C cells h in
+    omega (arith, a, b, c)
 
 -- ---- a whole text
 
@@ -159,13 +144,13 @@ pub printed_short : (s xs : List ℕ) → length xs < most_text → Printed s xs
 printed_short s xs h = let e : printed s (length xs) ≡ [] = rw (lt-ltb (length xs) most_text h) in record { count = sym (ap length e); bytes = sym (ap (λ (t : List ℕ). t ++ drop (length t) xs) e); within = omega arith }
 
 -- a text at the start of a buffer that holds it
-pub printed_long : (s text xs ys : List ℕ) (r : ℕ) → most_text ≤ length xs → text ≡ answer_text s → Put 0 text xs r ys → r ≤ most_text → Printed s xs r ys
-printed_long s text xs ys r h e p k =
+pub printed_long : {s text ys : List ℕ} {old new : Text} → Prints text old new → most_text ≤ length old.out.now → old.len ≡ 0 → text ≡ answer_text s → ys ≡ new.out.now → Printed s old.out.now new.len ys
+printed_long {s} {text} {ys} {old} {new} p h o e y =
+    let xs = old.out.now in
     let f : printed s (length xs) ≡ text = rw (le-ltb (length xs) most_text h) (sym e) in
-    let z : 0 + length text ≡ length text = omega arith in
-    let l : ys ≡ text ++ drop (length text) xs = p.bytes ∙ sets-eq text xs 0 (omega (arith, p.place)) ∙ ap (λ (n : ℕ). text ++ drop n xs) z in
+    let l : ys ≡ text ++ drop (length text) xs = y ∙ p.bytes ∙ ap (λ (k : ℕ). sets xs k text) o ∙ sets-eq text xs 0 (omega (arith, p.place, p.within, p.long)) ∙ ap (λ (n : ℕ). text ++ drop n xs) (zero-add (length text)) in
     record {
-      count = p.place ∙ z ∙ ap length (sym f);
+      count = p.place ∙ ap (λ (k : ℕ). k + length text) o ∙ zero-add (length text) ∙ ap length (sym f);
       bytes = l ∙ ap (λ (t : List ℕ). t ++ drop (length t) xs) (sym f);
-      within = let n = ap length p.bytes ∙ length-sets xs 0 text in omega (arith, n);
+      within = rw y p.within;
     }

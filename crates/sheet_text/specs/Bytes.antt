@@ -1,6 +1,7 @@
 -- Numbers and names as ASCII bytes, and what a function that writes bytes into a lent buffer says of it.
-use Rattle.std.specs.Prelude.{◌≡◌, cond, List, [], ◌∷◌, ◌++◌, ℕ, zero, suc, ◌+◌, ◌/◌, ◌%◌, length, ltb}
+use Rattle.std.specs.Prelude.{◌≡◌, cond, List, [], ◌∷◌, ◌++◌, ℕ, zero, suc, ◌+◌, ◌≤◌, ◌/◌, ◌%◌, length, ltb}
 use Rattle.std.proofs.lemmas.List.Edits.{sets}
+use Rattle.sheet_text.specs.declared.text.Text.{Text}
 
 abbrev pub space : ℕ
 space = 32
@@ -26,7 +27,14 @@ hex_digits (suc n) x = hex_digits n (x / 16) ++ (hex_digit (x % 16) ∷ [])
 unfoldable pub decimal : ℕ → List ℕ
 decimal n = cond (ltb n 10) ((48 + n) ∷ []) ((48 + n / 10) ∷ (48 + n % 10) ∷ [])
 
--- the text is in the buffer xs from `at` on, and the answer r is the place after it
-pub record Put (at : ℕ) (text : List ℕ) (xs : List ℕ) (r : ℕ) (ys : List ℕ) : Type 0 where
-  pub place : r ≡ at + length text
-  pub bytes : ys ≡ sets xs at text
+-- so many bytes more fit into the buffer of a text that is printed so far
+abbrev pub Room : ℕ → Text → Type 0
+Room n t = t.len + n ≤ length t.out.now
+
+-- the bytes are printed after what was printed before, into the same buffer; its other bytes stay
+pub record Prints (bs : List ℕ) (old new : Text) : Type 0 where
+  pub same : new.out.ghost_name ≡ old.out.ghost_name
+  pub long : length new.out.now ≡ length old.out.now
+  pub place : new.len ≡ old.len + length bs
+  pub within : new.len ≤ length new.out.now
+  pub bytes : new.out.now ≡ sets old.out.now old.len bs

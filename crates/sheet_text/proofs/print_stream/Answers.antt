@@ -1,8 +1,6 @@
--- `sheet_text::print_stream` meets its contract.
-use mathlib.Core.Path.{◌≡◌, ap, ◌∙◌}
-use mathlib.Core.List.{List}
+-- `print_stream` meets its contract.
+use Rattle.std.proofs.Common.{◌≡◌, ap, ◌∙◌, List, replicate, rules, refl}
 use lib.Ieee.{Float}
-use lib.ListN.{replicate}
 use Rattle.elementary.specs.Constants.{0·0}
 use Rattle.sheet_data.specs.Layout.{most_cells}
 use Rattle.card_run.specs.Run.{stream_of}
@@ -12,16 +10,12 @@ use Rattle.sheet_text.proofs.Puts.{printed_short, printed_long}
 use Rattle.sheet_text.proofs.print_stream.Goals as goal
 
 pub returns-then-out-lt-MOST_TEXT : goal.returns-then-out-lt-MOST_TEXT
-returns-then-out-lt-MOST_TEXT c =
-    let a = c.args in
-    printed_short a.s.now a.out.now c.if-out-lt-MOST_TEXT.true
+returns-then-out-lt-MOST_TEXT c = printed_short c.args.s.now c.args.out.now c.if-out-lt-MOST_TEXT.true
 
 pub returns : goal.returns
 unfolding answer_text
 returns c =
-    let p = c.put_run in
     let u = c.run_stream-run in
-    let a = c.args in
-    let ran = stream_of a.s.now (replicate most_cells 0·0) in
-    let e : run_text u.result u.new.cells ≡ answer_text a.s.now = ap (λ (r : Run). run_text r u.new.cells) u.ensures.answer ∙ ap (λ (ys : List Float). run_text ran.run ys) u.ensures.left in
-    printed_long a.s.now (run_text u.result u.new.cells) a.out.now p.new.out p.result c.if-out-lt-MOST_TEXT.false e p.ensures.0 p.ensures.1
+    let ran = stream_of c.args.s.now (replicate most_cells 0·0) in
+    let e : run_text u.result u.new.cells ≡ answer_text c.args.s.now = ap (λ (r : Run). run_text r u.new.cells) u.ensures.answer ∙ ap (λ (ys : List Float). run_text ran.run ys) u.ensures.left in
+    printed_long c.run.ensures c.if-out-lt-MOST_TEXT.false refl e (search rules)

@@ -1,0 +1,8 @@
+-- `line` meets its contract.
+use Rattle.sheet_text.specs.Text.{line_text}
+use Rattle.sheet_text.proofs.Puts.{prints_then}
+use Rattle.sheet_text.proofs.text.Text.line.Goals as goal
+
+pub returns : goal.returns
+unfolding line_text
+returns c = prints_then c.bytes.ensures c.numbers.ensures

@@ -1,0 +1,96 @@
+// A text that is printed into lent bytes: bytes, numbers and lines, each after what was printed before.
+ghost use Rattle.std.specs.Prelude.{◌≡◌, [], ◌∷◌, ◌++◌, ◌+◌, ◌≤◌, ◌<◌, length};
+ghost use Rattle.sheet_data.specs.Layout.{most_columns};
+ghost use Rattle.sheet_text.specs.Bytes.{digits, line_feed, hex_digit, hex_digits, decimal, Room, Prints};
+ghost use Rattle.sheet_text.specs.Text.{number_text_size, row_text, number_text, numbers_text, line_text};
+
+// The hexadecimal digits of 64 bits.
+pub(crate) const DIGITS: usize = 64 / 4;
+
+// The lent bytes, and how many of them are printed.
+#[derive(Drop)]
+pub(crate) struct Text<'a> {
+    pub(crate) out: &'a mut [u8],
+    pub(crate) len: usize,
+}
+
+// Digits are made by hand: what `write!` ensures doesn't rule out that it fails.
+fn hex_digit(n: u64) -> u8
+    requires { n < 16 }
+    ensures { result ≡ hex_digit n }
+{
+    if n < 10 {
+        b'0' + n as u8
+    } else {
+        b'a' - 10 + n as u8
+    }
+}
+
+// The hexadecimal digits, from the last to the first.
+#[tactic(auto, using(crate::proofs::Puts::hex_end))]
+fn hex_digits(x: u64) -> [u8; DIGITS]
+    ensures { result ≡ hex_digits digits x }
+{
+    let mut out = [0; DIGITS];
+    let mut rest = x;
+    for n in (0..DIGITS).rev() {
+        out[n] = hex_digit(rest % 16);
+        rest /= 16;
+    }
+    out
+}
+
+impl Text<'_> {
+    #[tactic(auto, using(crate::proofs::Puts::put_there))]
+    pub(crate) fn bytes(&mut self, bytes: &[u8])
+        requires { Room (length bytes.now) self.old }
+        ensures { Prints bytes.now self.old self.new }
+    {
+        let end = self.len + bytes.len();
+        self.out[self.len..end].copy_from_slice(bytes);
+        self.len = end;
+    }
+
+    // A number below 100 in decimal.
+    #[tactic(auto, unfolding(crate::specs::Bytes::decimal))]
+    pub(crate) fn decimal(&mut self, n: usize)
+        requires { (n < 100) × Room 2 self.old }
+        ensures { Prints (decimal n) self.old self.new }
+    {
+        let last = b'0' + (n % 10) as u8;
+        if n < 10 {
+            self.bytes(&[last]);
+        } else {
+            self.bytes(&[b'0' + (n / 10) as u8, last]);
+        }
+    }
+
+    // A space and the bits.
+    fn number(&mut self, x: f64)
+        requires { Room number_text_size self.old }
+        ensures { Prints (number_text x) self.old self.new }
+    {
+        self.bytes(b" ");
+        self.bytes(&hex_digits(elementary::to_bits(x)));
+    }
+
+    // The numbers of a row, and the end of the line.
+    pub(crate) fn numbers(&mut self, row: &[f64])
+        requires { (length row.now ≤ most_columns) × Room row_text self.old }
+        ensures { Prints (numbers_text row.now ++ (line_feed ∷ [])) self.old self.new }
+    {
+        for x in row {
+            self.number(*x);
+        }
+        self.bytes(b"\n");
+    }
+
+    // A name, and the numbers of a row.
+    pub(crate) fn line(&mut self, name: &[u8], row: &[f64])
+        requires { (length row.now ≤ most_columns) × Room (length name.now + row_text) self.old }
+        ensures { Prints (line_text name.now row.now) self.old self.new }
+    {
+        self.bytes(name);
+        self.numbers(row);
+    }
+}
