@@ -30,6 +30,7 @@ pub fn check_mach_any(mach: f64) -> Result<(), AeroError>
 }
 
 // The first bad Mach number's refusal.
+#[tactic(auto, unfolding(crate::specs::Friction::machs_test), using(aero_error::specs::CheckLaws::up_none, aero_error::specs::CheckLaws::up_end, aero_error::proofs::HandedOn::one_more))]
 pub fn check_machs(machs: &[f64]) -> Result<(), AeroError>
     ensures { result ≡ machs_test machs.now }
 {
@@ -118,14 +119,8 @@ fn limited_from(critical: Result<f64, AeroError>, reynolds: f64, relative_roughn
     ensures { result ≡ limited_from critical reynolds relative_roughness }
 {
     match critical {
-        Err(_) => 0.0,
-        Ok(at) => {
-            if reynolds >= at {
-                limited_friction(relative_roughness)
-            } else {
-                0.0
-            }
-        }
+        Ok(at) if reynolds >= at => limited_friction(relative_roughness),
+        _ => 0.0,
     }
 }
 
@@ -154,14 +149,11 @@ pub fn incompressible_skin_friction(
     ensures { result ≡ incompressible_skin_friction reynolds relative_roughness }
 {
     check_dimension(Quantity::Reynolds, reynolds, true)?;
-    if LOW_REYNOLDS <= reynolds {
-        let critical = critical_reynolds(relative_roughness)?;
-        if reynolds >= critical {
-            return Ok(limited_friction(relative_roughness));
-        }
-        return Ok(turbulent_friction(reynolds));
+    if LOW_REYNOLDS <= reynolds && reynolds >= critical_reynolds(relative_roughness)? {
+        Ok(limited_friction(relative_roughness))
+    } else {
+        Ok(turbulent_friction(reynolds))
     }
-    Ok(turbulent_friction(reynolds))
 }
 
 // Whether the roughness of a wall limits the friction at a Reynolds number.
@@ -169,13 +161,7 @@ pub fn incompressible_skin_friction(
 fn limits(wall: Wall, reynolds: f64) -> bool
     ensures { result ≡ limits_at wall reynolds }
 {
-    if LOW_REYNOLDS <= reynolds {
-        return match wall.critical {
-            Ok(critical) => reynolds >= critical,
-            Err(_) => false,
-        };
-    }
-    false
+    LOW_REYNOLDS <= reynolds && wall.critical.is_ok_and(|critical| reynolds >= critical)
 }
 
 // The turbulent friction where it is asked for, and otherwise 0, which nobody reads.
@@ -215,14 +201,11 @@ pub fn flow_of(asked: bool, reynolds: f64, mach: f64) -> Result<Flow, AeroError>
 fn on_wall(wall: Wall, reynolds: f64, rough: f64, smooth: f64) -> Result<f64, AeroError>
     ensures { result ≡ on_wall wall reynolds (λ limited x. cond limited rough smooth) }
 {
-    if LOW_REYNOLDS <= reynolds {
-        let critical = wall.critical?;
-        if reynolds >= critical {
-            return Ok(rough);
-        }
-        return Ok(smooth);
+    if LOW_REYNOLDS <= reynolds && reynolds >= wall.critical? {
+        Ok(rough)
+    } else {
+        Ok(smooth)
     }
-    Ok(smooth)
 }
 
 // Skin friction on a wall in a flow (eq. 3.82 to 3.84).
@@ -258,6 +241,7 @@ pub fn friction_on(wall: Wall, reynolds: f64, mach: f64) -> Result<f64, AeroErro
 }
 
 // Skin friction with compressibility (eq. 3.82 to 3.84).
+#[tactic(auto, using(crate::specs::Walls::friction_at))]
 pub fn skin_friction_coefficient(
     reynolds: f64,
     relative_roughness: f64,

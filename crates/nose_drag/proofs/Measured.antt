@@ -2,7 +2,7 @@
 -- joint angle: the weight of the upper reference is 0, and 0 times a finite difference adds nothing. (At weight 1 that can't be said of the upper reference:
 -- lo + 1 × (hi - lo) is rounded twice.)
 use Rattle.std.specs.Prelude.{Ok}
-use Rattle.nose_drag.specs.Curves.{cone_3, coefficient_of, power_bracket, parabolic_bracket, weight_of, new_curve, Curve}
+use Rattle.nose_drag.specs.Curves.{cone_3, coefficient_of, power_bracket, parabolic_bracket, weight_of, new_curve}
 use mathlib.Core.Path.{◌≡◌, refl, sym, ap, ◌∙◌}
 use mathlib.Core.Bool.{false}
 use Prim.Native.Nat.{ℕ, ◌+◌, ◌^◌, ◌≤◌}

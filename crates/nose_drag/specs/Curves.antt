@@ -1,5 +1,5 @@
 -- A curve's coefficient at a Mach number, and the curve of each shape (nose_drag.rs, `PressureDragCurve`). f is the fineness ratio, φ the joint angle.
-use Rattle.aero_error.specs.Checks.{required, dimension, ◌and_then◌, ◌for_value◌, Check, Coefficient}
+use Rattle.aero_error.specs.Checks.{required, dimension, ◌and_then◌, ◌for_value◌, Coefficient}
 use Rattle.std.specs.Prelude.{Result, Ok, Err, Some, None, Bool, true, false, cond, ◌&&◌, ◌||◌, Float}
 use Rattle.std.proofs.Math.Option.{Option, none, some}
 use Rattle.std.specs.Float.Ieee.{ne}

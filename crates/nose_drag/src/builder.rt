@@ -65,6 +65,7 @@ impl PressureDragCurve {
     }
 
     // The curve of a nose or shoulder: its shape, its fineness ratio l/(d_aft - d_fore) and its joint angle at the aft end.
+    #[tactic(auto, unfolding(crate::specs::Curves::new_curve, crate::specs::Curves::recorded), using(aero_error::proofs::HandedOn::handed_on))]
     pub fn new(
         shape: NoseShape,
         fineness_ratio: f64,
@@ -170,10 +171,8 @@ fn between_references(
 ) -> PressureDragCurve
     ensures { result ≡ between_references rest fineness_ratio bracket parameter }
 {
-    let lower = bracket.lower;
-    let upper = bracket.upper;
     let weight = (parameter - bracket.low) / (bracket.high - bracket.low);
-    PressureDragCurve::interpolated(rest, fineness_ratio, lower, upper, weight)
+    PressureDragCurve::interpolated(rest, fineness_ratio, bracket.lower, bracket.upper, weight)
 }
 
 // The cone times eq. B.8's factor, κ being one over the radius ratio.
@@ -181,13 +180,12 @@ fn between_references(
 fn ogive(rest: f64, fineness_ratio: f64, radius_ratio: f64) -> Result<PressureDragCurve, AeroError>
     ensures { result ≡ ogive_of rest fineness_ratio radius_ratio }
 {
-    if is_finite(radius_ratio) {
-        if radius_ratio >= 1.0 {
-            let factor = ogive_pressure_drag_factor(1.0 / radius_ratio)?;
-            return Ok(PressureDragCurve::cone(rest, fineness_ratio, factor));
-        }
+    if is_finite(radius_ratio) && radius_ratio >= 1.0 {
+        let factor = ogive_pressure_drag_factor(1.0 / radius_ratio)?;
+        Ok(PressureDragCurve::cone(rest, fineness_ratio, factor))
+    } else {
+        Err(AeroError::Broken(Rule::OgiveRadiusRatio))
     }
-    Err(AeroError::Broken(Rule::OgiveRadiusRatio))
 }
 
 // A shape between two references, for a parameter in [0, 1].
@@ -200,8 +198,7 @@ fn series(
 ) -> Result<PressureDragCurve, AeroError>
     ensures { result ≡ series_of rest fineness_ratio bracket what parameter }
 {
-    let ok = is_between(0.0, parameter, 1.0);
-    require(ok, what, parameter)?;
+    require(is_between(0.0, parameter, 1.0), what, parameter)?;
     Ok(between_references(rest, fineness_ratio, bracket, parameter))
 }
 
@@ -238,8 +235,7 @@ fn haack(rest: f64, fineness_ratio: f64, c: f64) -> Result<PressureDragCurve, Ae
     if c > 1.0 / 3.0 {
         return Err(AeroError::Broken(Rule::HaackAboveThird));
     }
-    let ok = is_between(0.0, c, 1.0 / 3.0);
-    require(ok, Quantity::HaackParameter, c)?;
+    require(is_between(0.0, c, 1.0 / 3.0), Quantity::HaackParameter, c)?;
     let lower = Reference::Stoney(StoneyNose::VonKarman);
     let upper = Reference::Stoney(StoneyNose::LvHaack);
     Ok(PressureDragCurve::interpolated(rest, fineness_ratio, lower, upper, 3.0 * c))

@@ -83,6 +83,7 @@ fn cone_supersonic(s: f64, m: f64) -> ValueAndSlope
 }
 
 // A cone's pressure drag from Mach 1, with s the sine of its half-angle (eq. B.4 to B.6, and the cubic between Mach 1 and 1.3).
+#[tactic(auto, unfolding(crate::specs::Forms::cone_transonic), using(crate::specs::Values::cone_by_root_lem, crate::specs::Values::cone_supersonic_root))]
 fn cone_transonic(s: f64, mach: f64) -> ValueAndSlope
     ensures { result ≡ cone_transonic s mach }
 {
@@ -123,17 +124,15 @@ pub(crate) fn cone_method(sin_half_angle: f64, factor: f64, mach: f64) -> ValueA
     }
 }
 
-// The value alone.
+// The value alone, for speed.
 #[tactic(auto, unfolding(crate::specs::Forms::cone_method, crate::specs::Forms::cone_transonic))]
 pub(crate) fn cone_value(sin_half_angle: f64, factor: f64, mach: f64) -> f64
     ensures { result ≡ (cone_method sin_half_angle factor mach).value }
 {
     if mach >= CONE_SUPERSONIC_MACH {
-        let cone = cone_supersonic(sin_half_angle, mach);
-        factor * cone.value
+        factor * cone_supersonic(sin_half_angle, mach).value
     } else {
-        let at = cone_method(sin_half_angle, factor, mach);
-        at.value
+        cone_method(sin_half_angle, factor, mach).value
     }
 }
 

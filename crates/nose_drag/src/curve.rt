@@ -20,7 +20,7 @@ use stoney::{StoneyNose, ValueAndSlope};
 pub(crate) const DEPTH: u8 = 4;
 
 // A curve that eq. B.9's scaling and the interpolation between shapes run between.
-#[derive(Clone, Copy)]
+#[derive(Clone, Copy, Debug, PartialEq)]
 pub enum Reference {
     // The blunt cylinder.
     Blunt,
@@ -35,7 +35,7 @@ pub enum Reference {
 }
 
 // A transonic and supersonic method, from its lower bound M_L up.
-#[derive(Clone, Copy)]
+#[derive(Clone, Copy, Debug, PartialEq)]
 pub enum Transonic {
     // The blunt cylinder.
     Blunt,
@@ -59,7 +59,7 @@ pub enum Transonic {
 }
 
 // A nose's, shoulder's or step's pressure drag against Mach number, on its increase in area. A step and a bare front face have no shape.
-#[derive(Clone, Copy)]
+#[derive(Clone, Copy, Debug, PartialEq)]
 pub struct PressureDragCurve {
     pub(crate) shape: Option<NoseShape>,
     pub(crate) fineness_ratio: f64,
@@ -78,6 +78,7 @@ impl Reference {
     };
 
     #[cycle(pressure_drag)]
+    #[tactic(auto, using(crate::proofs::Cycle::cone_reference, crate::proofs::Cycle::kept_method))]
     fn value_and_slope(self, mach: f64, depth: u8) -> ValueAndSlope
         requires { depth_of_reference self ≤ depth }
         ensures { result ≡ reference_at self mach }
@@ -97,7 +98,8 @@ impl Reference {
         }
     }
 
-    // The value alone. From Mach 1 a cone's whole curve is its method, so that only below a curve is made and asked, one call deeper.
+    // The value alone, for speed. From Mach 1 a cone's whole curve is its method, so that only below a curve is made and asked, one call deeper.
+    #[tactic(auto, unfolding(crate::specs::Forms::blunt), using(crate::specs::Values::whole_cone_above, crate::proofs::Cycle::cone_reference, crate::proofs::Cycle::kept_method))]
     fn value(self, mach: f64, depth: u8) -> f64
         requires { depth_of_reference self ≤ depth }
         ensures { result ≡ (reference_at self mach).value }
@@ -112,16 +114,12 @@ impl Reference {
                 if mach < 1.0 {
                     let cone = Transonic::cone(fineness_ratio, factor);
                     let curve = PressureDragCurve::from_transonic(rest, cone, 1.0, depth - 1);
-                    let at = curve.value_and_slope(mach, depth - 1);
-                    at.value
+                    curve.value_and_slope(mach, depth - 1).value
                 } else {
                     cone_value(sin_half_angle(fineness_ratio), factor, mach)
                 }
             }
-            Reference::Stoney(nose) => {
-                let at = nose.value_and_slope(mach);
-                at.value
-            }
+            Reference::Stoney(nose) => nose.value_and_slope(mach).value,
         }
     }
 }
@@ -165,7 +163,8 @@ impl Transonic {
         }
     }
 
-    // The value alone, which is all that a coefficient takes: each case hands on its numbers, and no method is copied.
+    // The value alone, for speed, which is all that a coefficient takes: each case hands on its numbers, and no method is copied.
+    #[tactic(auto, unfolding(crate::specs::Forms::blunt), using(crate::specs::Values::value_of_scaled))]
     fn value(self, mach: f64, depth: u8) -> f64
         requires { depth_of_transonic self ≤ depth }
         ensures { result ≡ (method_at self mach).value }
@@ -189,10 +188,7 @@ impl Transonic {
             Transonic::Ellipsoid {
                 fineness_ratio,
                 rest,
-            } => {
-                let at = ellipsoid(fineness_ratio, rest, mach);
-                at.value
-            }
+            } => ellipsoid(fineness_ratio, rest, mach).value,
         }
     }
 }
@@ -200,6 +196,7 @@ impl Transonic {
 impl PressureDragCurve {
     // From the value at rest, the method and M_L. With M_L 0 the method covers every Mach number, and the value at rest is its own.
     #[cycle(pressure_drag)]
+    #[tactic(auto, unfolding(crate::specs::Curves::from_transonic, crate::specs::Below::rest_with, crate::specs::Below::fit_with))]
     pub(crate) fn from_transonic(
         rest: f64,
         transonic: Transonic,
@@ -210,43 +207,32 @@ impl PressureDragCurve {
         ensures { result ≡ from_transonic rest transonic mach_low }
     {
         let low = transonic.value_and_slope(mach_low, depth - 1);
-        if mach_low == 0.0 {
-            PressureDragCurve {
-                shape: None,
-                fineness_ratio: 0.0,
-                rest: low.value,
-                mach_low,
-                fit: Fit::new(low.value - low.value, low.slope, mach_low),
-                transonic,
-            }
-        } else {
-            PressureDragCurve {
-                shape: None,
-                fineness_ratio: 0.0,
-                rest,
-                mach_low,
-                fit: Fit::new(low.value - rest, low.slope, mach_low),
-                transonic,
-            }
+        let rest = if mach_low == 0.0 { low.value } else { rest };
+        PressureDragCurve {
+            shape: None,
+            fineness_ratio: 0.0,
+            rest,
+            mach_low,
+            fit: Fit::new(low.value - rest, low.slope, mach_low),
+            transonic,
         }
     }
 
     // The value and slope at a checked Mach number.
     #[cycle(pressure_drag)]
+    #[tactic(auto, unfolding(crate::specs::Below::fitted))]
     fn value_and_slope(self, mach: f64, depth: u8) -> ValueAndSlope
         requires { suc (depth_of_transonic self.transonic) ≤ depth }
         ensures { result ≡ curve_at self mach }
     {
         if mach < self.mach_low {
-            let fit = self.fit;
-            let rise = fit.eval(mach, self.mach_low);
+            let rise = self.fit.eval(mach, self.mach_low);
             ValueAndSlope {
                 value: self.rest + rise.value,
                 slope: rise.slope,
             }
         } else {
-            let transonic = self.transonic;
-            transonic.value_and_slope(mach, depth - 1)
+            self.transonic.value_and_slope(mach, depth - 1)
         }
     }
 
@@ -279,11 +265,9 @@ impl PressureDragCurve {
     {
         check_mach_any(mach)?;
         if mach < self.mach_low {
-            let fit = self.fit;
-            let rise = fit.eval(mach, self.mach_low);
-            return Ok(self.rest + rise.value);
+            Ok(self.rest + self.fit.eval(mach, self.mach_low).value)
+        } else {
+            Ok(self.transonic.value(mach, DEPTH - 1))
         }
-        let transonic = self.transonic;
-        Ok(transonic.value(mach, DEPTH - 1))
     }
 }

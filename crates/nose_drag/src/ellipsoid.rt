@@ -97,6 +97,5 @@ pub fn ellipsoid_subsonic_pressure_drag(fineness_ratio: f64, mach: f64) -> Resul
     let ok = 0.0 <= mach && mach < SUBSONIC_MACH_LIMIT;
     check_dimension(Quantity::EllipsoidFineness, fineness_ratio, false)?;
     require(ok, Quantity::EllipsoidMach, mach)?;
-    let low = ellipsoid_low_speed(fineness_ratio, mach);
-    Ok(low.value)
+    Ok(ellipsoid_low_speed(fineness_ratio, mach).value)
 }

@@ -7,7 +7,7 @@ use elementary::{is_between, is_finite};
 use stoney::ValueAndSlope;
 
 // Eq. 3.87's fit below M_L: how the drag rises from its value at rest to the method's value at M_L.
-#[derive(Clone, Copy)]
+#[derive(Clone, Copy, Debug, PartialEq)]
 pub enum Fit {
     // a Mᵇ, held as Δ (M/M_L)ᵇ.
     Power { delta: f64, b: f64 },
@@ -92,6 +92,5 @@ pub fn subsonic_pressure_drag_coefficient(
 {
     check_below(c_rest, c_low, slope_low, mach_low, mach)?;
     let fit = Fit::new(c_low - c_rest, slope_low, mach_low);
-    let rise = fit.eval(mach, mach_low);
-    Ok(c_rest + rise.value)
+    Ok(c_rest + fit.eval(mach, mach_low).value)
 }

@@ -68,7 +68,7 @@ pub(crate) fn scaled(
     }
 }
 
-// The same where the slope isn't asked.
+// The value alone, for speed.
 #[tactic(auto, unfolding(crate::specs::Values::scaled_value))]
 pub(crate) fn scaled_value(lo: f64, hi: f64, weight: f64, exponent: f64, mach: f64) -> f64
     ensures { result ≡ scaled_value lo hi weight exponent mach }

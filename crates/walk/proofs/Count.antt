@@ -1,10 +1,9 @@
 -- The count of a walk. For every nose and list: each time that a query is set against a point it leaves that point behind for good, or ends, so that the count is
 -- at most queries plus points (`count_most`). For accepted queries: which points and queries those are (`cost_is`).
-use Rattle.std.specs.Prelude.{Ok}
+use Rattle.std.specs.Prelude.{Ok, Option, Some, None}
 use mathlib.Core.Path.{◌≡◌, refl, sym, ap, ◌∙◌, subst}
 use mathlib.Core.Bool.{Bool, true, false, cond}
 use mathlib.Core.List.{List, [], ◌∷◌}
-use mathlib.Core.Option.{Option, none, some}
 use Prim.Native.Nat.{ℕ, suc, ◌+◌, ◌≤◌, ◌<◌}
 use native.Mathlib.Nat.{zero-add, not-suc-le-zero}
 use native.Mathlib.Omega.{arith}
@@ -33,10 +32,10 @@ leg_count : (passed : Option Point) (ahead : List Point) (M : Float)
     → (leg passed ahead M).compared + length (leg passed ahead M).ends.ahead ≡ length ahead + at_point (leg passed ahead M).ends.ahead
 unfolding leg
 leg_count passed [] M = refl
-leg_count passed (p ∷ ahead) M = go (reached p M) refl (leg_count (some p) ahead M)
+leg_count passed (p ∷ ahead) M = go (reached p M) refl (leg_count (Some p) ahead M)
   where
     go : (b : Bool) → reached p M ≡ b
-        → (leg (some p) ahead M).compared + length (leg (some p) ahead M).ends.ahead ≡ length ahead + at_point (leg (some p) ahead M).ends.ahead
+        → (leg (Some p) ahead M).compared + length (leg (Some p) ahead M).ends.ahead ≡ length ahead + at_point (leg (Some p) ahead M).ends.ahead
         → (leg passed (p ∷ ahead) M).compared + length (leg passed (p ∷ ahead) M).ends.ahead ≡ suc (length ahead) + at_point (leg passed (p ∷ ahead) M).ends.ahead
     go true e h = rw e (omega (arith, h))
     go false e h = rw e (omega arith)
@@ -82,9 +81,9 @@ module _ (M : Float) where
   left_over : (passed : Option Point) (ps : List Point) → T (rises ps) → length (leg passed ps M).ends.ahead + reached_by M ps ≡ length ps
   unfolding leg reached_by
   left_over passed [] t = refl
-  left_over passed (p ∷ ps) t = go (reached p M) refl (left_over (some p) ps (rest_rises p ps t))
+  left_over passed (p ∷ ps) t = go (reached p M) refl (left_over (Some p) ps (rest_rises p ps t))
     where
-      go : (b : Bool) → reached p M ≡ b → length (leg (some p) ps M).ends.ahead + reached_by M ps ≡ length ps
+      go : (b : Bool) → reached p M ≡ b → length (leg (Some p) ps M).ends.ahead + reached_by M ps ≡ length ps
           → length (leg passed (p ∷ ps) M).ends.ahead + reached_by M (p ∷ ps) ≡ suc (length ps)
       go true e h = rw e (omega (arith, h))
       go false e h = let z = none_after p ps t e in rw e (omega (arith, z))
@@ -97,9 +96,9 @@ module _ (M : Float) where
       go : (b : Bool) → reached p M ≡ b → at_point (leg passed (p ∷ []) M).ends.ahead ≡ cond (reached p M) 0 1
       go true e = rw e
       go false e = rw e
-  ends_at passed p (q ∷ rest) t = go (reached p M) refl (ends_at (some p) q rest (tail_rises p q rest t))
+  ends_at passed p (q ∷ rest) t = go (reached p M) refl (ends_at (Some p) q rest (tail_rises p q rest t))
     where
-      go : (b : Bool) → reached p M ≡ b → at_point (leg (some p) (q ∷ rest) M).ends.ahead ≡ cond (reached (last (q ∷ rest)) M) 0 1
+      go : (b : Bool) → reached p M ≡ b → at_point (leg (Some p) (q ∷ rest) M).ends.ahead ≡ cond (reached (last (q ∷ rest)) M) 0 1
           → at_point (leg passed (p ∷ q ∷ rest) M).ends.ahead ≡ cond (reached (last (q ∷ rest)) M) 0 1
       go true e h = rw e h
       go false e h = rw (e, last_not_reached p (q ∷ rest) t e)
@@ -114,13 +113,13 @@ one_short p M Ms = go (reached p M) refl
     go false e = let s : suc (short_of p Ms) ≡ 1 + short_of p Ms = omega arith in rw e s
 
 module _ (p : Point) (ps : List Point) (t : T (rises (p ∷ ps))) where
-  module _ (stand : Stand) (M : Float) (c : (went stand M).ends ≡ (leg none (p ∷ ps) M).ends) where
+  module _ (stand : Stand) (M : Float) (c : (went stand M).ends ≡ (leg None (p ∷ ps) M).ends) where
     one_query : (went stand M).compared + length (went stand M).ends.ahead ≡ length stand.ahead + cond (reached (last (p ∷ ps)) M) 0 1
     one_query =
-        leg_count stand.passed stand.ahead M ∙ ap (λ (n : ℕ). length stand.ahead + n) (ap (λ (s : Stand). at_point s.ahead) c ∙ ends_at M none p ps t)
+        leg_count stand.passed stand.ahead M ∙ ap (λ (n : ℕ). length stand.ahead + n) (ap (λ (s : Stand). at_point s.ahead) c ∙ ends_at M None p ps t)
 
     left_there : length (went stand M).ends.ahead + reached_by M (p ∷ ps) ≡ length (p ∷ ps)
-    left_there = rw c (left_over M none (p ∷ ps) t)
+    left_there = rw c (left_over M None (p ∷ ps) t)
 
   from_stand : (stand : Stand) (M : Float) (Ms : List Float) → Caught (p ∷ ps) stand (M ∷ Ms) → Rising (M ∷ Ms)
       → (walk_from stand (M ∷ Ms)).compared + length (p ∷ ps) ≡ length stand.ahead + cost (p ∷ ps) M Ms + short_of (last (p ∷ ps)) (M ∷ Ms)
@@ -137,9 +136,9 @@ module _ (p : Point) (ps : List Point) (t : T (rises (p ∷ ps))) where
       omega (arith, one, short, rest)
 
 whole : (ps : List Point) → T (rises ps) → 0 < length ps → (M : Float) (Ms : List Float) → Rising (M ∷ Ms)
-    → (walk_from (record { passed = none; ahead = ps }) (M ∷ Ms)).compared ≡ cost ps M Ms + short_of (last ps) (M ∷ Ms)
+    → (walk_from (record { passed = None; ahead = ps }) (M ∷ Ms)).compared ≡ cost ps M Ms + short_of (last ps) (M ∷ Ms)
 whole [] t h M Ms r = absurd (not-suc-le-zero h)
-whole (p ∷ ps) t h M Ms r = let all = from_stand p ps t (record { passed = none; ahead = p ∷ ps }) M Ms (at_start (p ∷ ps) (M ∷ Ms)) r in omega (arith, all)
+whole (p ∷ ps) t h M Ms r = let all = from_stand p ps t (record { passed = None; ahead = p ∷ ps }) M Ms (at_start (p ∷ ps) (M ∷ Ms)) r in omega (arith, all)
 
 -- "the number of times a query was set against a table point", told without the walk
 pub cost_is : (nose : StoneyNose) (Ms : List Float) (cells : ℕ) → flight_test Ms cells ≡ Ok tt → count_of nose Ms ≡ cost_of nose Ms

@@ -1,10 +1,9 @@
 -- The walk as told and the single lookup agree. A walk that goes on from an earlier query's end comes to the same end as one from the first point, since the points
 -- passed are at or below every later query (`goes_on`); and at its end stands the segment that the single lookup takes (`looked_up`).
-use Rattle.std.specs.Prelude.{Ok}
+use Rattle.std.specs.Prelude.{Ok, Option, Some, None}
 use mathlib.Core.Path.{◌≡◌, refl, sym, ap, subst}
 use mathlib.Core.Bool.{Bool, true, false}
 use mathlib.Core.List.{List, [], ◌∷◌, map}
-use mathlib.Core.Option.{Option, none, some}
 use Prim.Native.Nat.{ℕ, suc, ◌-◌, ◌<◌}
 use native.Mathlib.Omega.{arith}
 use lib.Dec.{T}
@@ -52,21 +51,21 @@ module _ (M : Float) (good : T (finite M)) where
   passes : (p : Point) → reached p M ≡ true → is_short_of M p ≡ false
   passes p e = not_above p.mach M (subst T (sym e) tt)
 
-  on_from : (p : Point) (ps : List Point) → T (rises ps) → walk p ps M ≡ read_at (leg (some p) ps M).ends M
+  on_from : (p : Point) (ps : List Point) → T (rises ps) → walk p ps M ≡ read_at (leg (Some p) ps M).ends M
   unfolding walk leg
   on_from p [] t = refl
   on_from p (q ∷ rest) t = go (reached q M) refl (on_from q rest (rest_rises q rest t))
     where
-      go : (b : Bool) → reached q M ≡ b → walk q rest M ≡ read_at (leg (some q) rest M).ends M → walk p (q ∷ rest) M ≡ read_at (leg (some p) (q ∷ rest) M).ends M
+      go : (b : Bool) → reached q M ≡ b → walk q rest M ≡ read_at (leg (Some q) rest M).ends M → walk p (q ∷ rest) M ≡ read_at (leg (Some p) (q ∷ rest) M).ends M
       go true e h = rw (e, passes q e) h
       go false e h = rw (e, higher q (first_positive q rest t) e)
 
-  looked_up : (ps : List Point) → T (rises ps) → lookup ps M ≡ read_at (leg none ps M).ends M
+  looked_up : (ps : List Point) → T (rises ps) → lookup ps M ≡ read_at (leg None ps M).ends M
   unfolding lookup leg
   looked_up [] t = refl
   looked_up (p ∷ ps) t = go (reached p M) refl
     where
-      go : (b : Bool) → reached p M ≡ b → lookup (p ∷ ps) M ≡ read_at (leg none (p ∷ ps) M).ends M
+      go : (b : Bool) → reached p M ≡ b → lookup (p ∷ ps) M ≡ read_at (leg None (p ∷ ps) M).ends M
       go true e = rw (e, passes p e) (on_from p ps (rest_rises p ps t))
       go false e = rw (e, higher p (first_positive p ps t) e)
 
@@ -80,9 +79,9 @@ module _ (M N : Float) (f : T (finite M)) (g : T (finite N)) (later : (N ≺ M) 
   goes_on : (passed : Option Point) (ps : List Point) → T (rises ps) → (went (leg passed ps M).ends N).ends ≡ (leg passed ps N).ends
   unfolding leg
   goes_on passed [] t = refl
-  goes_on passed (p ∷ ps) t = go (reached p M) refl (goes_on (some p) ps (rest_rises p ps t))
+  goes_on passed (p ∷ ps) t = go (reached p M) refl (goes_on (Some p) ps (rest_rises p ps t))
     where
-      go : (b : Bool) → reached p M ≡ b → (went (leg (some p) ps M).ends N).ends ≡ (leg (some p) ps N).ends → (went (leg passed (p ∷ ps) M).ends N).ends ≡ (leg passed (p ∷ ps) N).ends
+      go : (b : Bool) → reached p M ≡ b → (went (leg (Some p) ps M).ends N).ends ≡ (leg (Some p) ps N).ends → (went (leg passed (p ∷ ps) M).ends N).ends ≡ (leg passed (p ∷ ps) N).ends
       go true e h = rw (e, is_true (reached p N) (still_below p M N (first_positive p ps t) f g later (subst T (sym e) tt))) h
       go false e h = rw e
 
@@ -109,15 +108,15 @@ accepted_rise Ms cells h =
 -- the list's first query, if any, ends where the single lookup would
 abbrev pub Caught : List Point → Stand → List Float → Type 0
 Caught ps stand [] = Unit {0}
-Caught ps stand (M ∷ Ms) = (went stand M).ends ≡ (leg none ps M).ends
+Caught ps stand (M ∷ Ms) = (went stand M).ends ≡ (leg None ps M).ends
 
-pub at_start : (ps : List Point) (Ms : List Float) → Caught ps (record { passed = none; ahead = ps }) Ms
+pub at_start : (ps : List Point) (Ms : List Float) → Caught ps (record { passed = None; ahead = ps }) Ms
 at_start ps [] = tt
 at_start ps (M ∷ Ms) = refl
 
-pub caught : (ps : List Point) → T (rises ps) → (M : Float) (Ms : List Float) → Rising (M ∷ Ms) → Caught ps (leg none ps M).ends Ms
+pub caught : (ps : List Point) → T (rises ps) → (M : Float) (Ms : List Float) → Rising (M ∷ Ms) → Caught ps (leg None ps M).ends Ms
 caught ps t M [] r = tt
-caught ps t M (N ∷ Ms) r = goes_on M N (r.good 0 (omega arith)) (r.good 1 (omega arith)) (r.later 0 (omega arith)) none ps t
+caught ps t M (N ∷ Ms) r = goes_on M N (r.good 0 (omega arith)) (r.good 1 (omega arith)) (r.later 0 (omega arith)) None ps t
 
 module _ (ps : List Point) (t : T (rises ps)) where
   all_agree : (stand : Stand) (Ms : List Float) → Caught ps stand Ms → Rising Ms → (walk_from stand Ms).values ≡ map (λ M. (lookup ps M).value) Ms
@@ -125,7 +124,7 @@ module _ (ps : List Point) (t : T (rises ps)) where
   all_agree stand [] c r = refl
   all_agree stand (M ∷ Ms) c r =
       rw (c, looked_up M (r.good 0 (omega arith)) ps t)
-      (ap (λ (vs : List Float). (read_at (leg none ps M).ends M).value ∷ vs) (all_agree (leg none ps M).ends Ms (caught ps t M Ms r) (rest_rising M Ms r)))
+      (ap (λ (vs : List Float). (read_at (leg None ps M).ends M).value ∷ vs) (all_agree (leg None ps M).ends Ms (caught ps t M Ms r) (rest_rising M Ms r)))
 
 -- Accepted queries: the walk's values are the single lookup's.
 pub agree : (nose : StoneyNose) (Ms : List Float) (cells : ℕ) → flight_test Ms cells ≡ Ok tt → (walk_of nose Ms).values ≡ values_of nose Ms

@@ -1,86 +1,49 @@
--- A turn of the program's loops: one point more is met by a query, the table is read where it ends, and one query more is answered.
-use mathlib.Core.Path.{◌≡◌, refl, ap, ◌∙◌}
-use mathlib.Core.Bool.{true, false}
-use mathlib.Core.List.{List, [], ◌∷◌}
-use Prim.Native.Nat.{ℕ, zero, suc, ◌+◌, ◌-◌, ◌≤◌, ◌<◌}
-use native.Mathlib.Numerals.{add-one}
-use native.Mathlib.Nat.{add-zero, zero-add}
-use native.Mathlib.Omega.{arith}
-use lib.ListN.{length, get_or, drop}
-use lib.Seq.{drop-cons}
+-- A turn of the program's loops: one point more is met by a query, and one query more is answered.
+use Rattle.std.specs.Prelude.{Option, Some}
+use Rattle.std.proofs.Common.{◌≡◌, true, false, List, [], ◌∷◌, ℕ, suc, ◌+◌, ◌-◌, ◌≤◌, ◌<◌, length, get_or, take, drop, set, add-one, drop-cons, arith}
+use Rattle.std.proofs.lemmas.List.{take_all, drop_all}
+use Rattle.std.proofs.lemmas.List.Edits.{sets}
+use native.Mathlib.Nat.{add-zero}
 use lib.Ieee.{Float, nan}
 use Rattle.stoney.specs.Points.{Point}
-use Rattle.stoney.specs.Lookup.{before, line, held}
-use Rattle.stoney.specs.Stored.{point_in, stretch}
 use Rattle.walk.specs.Walk.{Stand, Went, reached, leg, went, once_more, read_at, walk_from}
-use Rattle.walk.specs.Places.{stand_at}
-
--- so many comparisons before
-abbrev pub after : ℕ → Went → Went
-after n w = record { compared = n + w.compared; ends = w.ends }
+use Rattle.walk.specs.Walker.{after}
 
 after_more : (n : ℕ) (w : Went) → after n (once_more w) ≡ after (n + 1) w
 after_more n w = let e : n + suc w.compared ≡ n + 1 + w.compared = omega arith in rw e
 
-pub after_none : (w : Went) → w ≡ after 0 w
-after_none w = rw (zero-add w.compared)
+-- ---- a query that meets these points, after n comparisons
 
--- ---- a query against the current point
+module _ (passed : Option Point) (M : Float) (n : ℕ) (d : Point) where
+  pub moves : (ps : List Point) → 0 < length ps → reached (get_or ps 0 d) M ≡ true
+      → after n (leg passed ps M) ≡ after (n + 1) (leg (Some (get_or ps 0 d)) (take (length ps - 1) (drop 1 ps)) M)
+  unfolding leg
+  moves [] h e = absurd (omega arith)
+  moves (p ∷ ps) h e = let l : length ps ≤ length (p ∷ ps) - 1 = omega arith in rw (e, take_all (length (p ∷ ps) - 1) ps l) (after_more n _)
 
-module _ (machs drags : List Float) (first count : ℕ) where
-  abbrev here : ℕ → Point
-  here k = point_in machs drags (first + k)
+  pub stops : (ps : List Point) → 0 < length ps → reached (get_or ps 0 d) M ≡ false → after n (leg passed ps M) ≡ record { compared = n + 1; ends = record { passed = passed; ahead = ps } }
+  unfolding leg
+  stops [] h e = absurd (omega arith)
+  stops (p ∷ ps) h e = rw e
 
-  -- the current point, and those after it
-  pub ahead_of : (k : ℕ) → k < count → stretch machs drags (first + k) (count - k) ≡ here k ∷ stretch machs drags (first + (k + 1)) (count - (k + 1))
-  unfolding stretch
-  ahead_of k h =
-      let e : count - k ≡ suc (count - (k + 1)) = omega arith in
-      let s : first + k + 1 ≡ first + (k + 1) = omega arith in
-      rw (e, s)
+  pub ends_past : (ps : List Point) → length ps < 1 → after n (leg passed ps M) ≡ record { compared = n; ends = record { passed = passed; ahead = ps } }
+  unfolding leg
+  ends_past [] h = rw (add-zero n)
+  ends_past (p ∷ ps) h = absurd (omega arith)
 
-  none_ahead : (k : ℕ) → count ≤ k → stretch machs drags (first + k) (count - k) ≡ []
-  unfolding stretch
-  none_ahead k h = let e : count - k ≡ 0 = omega arith in rw e
+-- ---- the queries from the place i on
 
-  -- after n comparisons
-  module _ (M : Float) (n : ℕ) where
-    pub moves : (k : ℕ) → k < count → reached (here k) M ≡ true
-        → after n (went (stand_at machs drags first count k) M) ≡ after (n + 1) (went (stand_at machs drags first count (k + 1)) M)
-    unfolding leg
-    moves k h e = rw (ahead_of k h, e, add-one k) (after_more n _)
-
-    pub stops : (k : ℕ) → k < count → reached (here k) M ≡ false → after n (went (stand_at machs drags first count k) M) ≡ record { compared = n + 1; ends = stand_at machs drags first count k }
-    unfolding leg
-    stops k h e = rw (ahead_of k h, e)
-
-    pub ends_past : (k : ℕ) → count ≤ k → after n (went (stand_at machs drags first count k) M) ≡ record { compared = n; ends = stand_at machs drags first count k }
-    unfolding leg
-    ends_past k h = rw (none_ahead k h, add-zero n)
-
-  -- ---- where a query ends
-
-  module _ (M : Float) where
-    pub at_first : 0 < count → read_at (stand_at machs drags first count 0) M ≡ before (point_in machs drags first) M
-    at_first h = rw (ahead_of 0 h, add-zero first)
-
-    pub in_between : (k : ℕ) → 0 < k → k < count → read_at (stand_at machs drags first count k) M ≡ line (point_in machs drags (first + k - 1)) (here k) M
-    in_between zero z h = absurd (omega arith)
-    in_between (suc k) z h = let e : first + suc k - 1 ≡ first + k = omega arith in rw (ahead_of (suc k) h, e)
-
-    pub at_end : (k : ℕ) → 0 < k → count ≤ k → read_at (stand_at machs drags first count k) M ≡ held (point_in machs drags (first + k - 1))
-    at_end zero z h = absurd (omega arith)
-    at_end (suc k) z h = let e : first + suc k - 1 ≡ first + k = omega arith in rw (none_ahead (suc k) h, e)
-
--- ---- one query more, which n comparisons bring to its end
-
-pub one_more : (stand end : Stand) (n : ℕ) (Ms : List Float) (i : ℕ) → i < length Ms → went stand (get_or Ms i nan) ≡ record { compared = n; ends = end } →
-    let rest = walk_from end (drop (i + 1) Ms) in
-    walk_from stand (drop i Ms) ≡ record { values = (read_at end (get_or Ms i nan)).value ∷ rest.values; compared = n + rest.compared }
+pub none_left : (stand : Stand) (Ms : List Float) (i : ℕ) → length Ms ≤ i → walk_from stand (drop i Ms) ≡ record { values = []; compared = 0 }
 unfolding walk_from
-one_more stand end n Ms i h e = ap (walk_from stand) (drop-cons Ms i nan h) ∙ rw (e, add-one i)
+none_left stand Ms i h = rw (drop_all i Ms h)
 
-pub stretch_long : (machs drags : List Float) (place n : ℕ) → length (stretch machs drags place n) ≡ n
-unfolding stretch
-stretch_long machs drags place zero = refl
-stretch_long machs drags place (suc n) = rw (stretch_long machs drags (place + 1) n)
+-- the query at the place i, with `before` comparisons before it: it comes to w, and the table's value there is v
+
+module _ (stand : Stand) (before : ℕ) (Ms : List Float) (i : ℕ) where
+  pub record OneMore (w : Went) (v : Float) : Type 0 where
+    pub counted : before + (walk_from stand (drop i Ms)).compared ≡ w.compared + (walk_from w.ends (drop (i + 1) Ms)).compared
+    pub written : (ys : List Float) → sets ys i (walk_from stand (drop i Ms)).values ≡ sets (set ys i v) (i + 1) (walk_from w.ends (drop (i + 1) Ms)).values
+
+  pub one_more : (w : Went) (v : Float) → i < length Ms → w ≡ after before (went stand (get_or Ms i nan)) → v ≡ (read_at w.ends (get_or Ms i nan)).value → OneMore w v
+  unfolding walk_from
+  one_more w v h e f = record { counted = rw (drop-cons Ms i nan h, e, add-one i) (omega arith); written = λ ys. rw (drop-cons Ms i nan h, f, e, add-one i) }

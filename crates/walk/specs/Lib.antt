@@ -1,6 +1,6 @@
--- What the contracts of walk cite: the tests of the queries, the walk as it is told and what it costs, what a call answers, and the walk by places in the arrays.
+-- What the contracts of walk cite: the tests of the queries, the walk as it is told and what it costs, what a call answers, and the walker of the program.
 pub mod Tests
 pub mod Walk
 pub mod Cost
 pub mod Answers
-pub mod Places
+pub mod Walker

@@ -1,7 +1,6 @@
 -- The walk along a table, query by query: "The walk starts at the first point; a query is set against the current point, moves one on while that point is at
 -- or below it, and ends at a higher point or past the last." Each query begins where the one before ended.
-use Rattle.std.specs.Prelude.{Bool, cond, List, [], ◌∷◌, ℕ, suc, ◌+◌, Float}
-use Rattle.std.proofs.Math.Option.{Option, none, some}
+use Rattle.std.specs.Prelude.{Bool, cond, List, [], ◌∷◌, ℕ, suc, ◌+◌, Float, Option, Some, None}
 use Rattle.elementary.specs.Arithmetic.{◌≼◌}
 use Rattle.stoney.specs.declared.StoneyNose.{StoneyNose}
 use Rattle.stoney.specs.declared.ValueAndSlope.{ValueAndSlope}
@@ -32,7 +31,7 @@ unfoldable pub leg : Option Point → List Point → Float → Went
 leg passed [] M = record { compared = 0; ends = record { passed = passed; ahead = [] } }
 leg passed (p ∷ ahead) M =
     cond (reached p M)
-    (once_more (leg (some p) ahead M))
+    (once_more (leg (Some p) ahead M))
     (record { compared = 1; ends = record { passed = passed; ahead = p ∷ ahead } })
 
 abbrev pub went : Stand → Float → Went
@@ -43,10 +42,10 @@ abbrev pub read_at : Stand → Float → ValueAndSlope
 read_at stand M = between stand.passed stand.ahead
   where
     between : Option Point → List Point → ValueAndSlope
-    between none [] = held no_point
-    between none (first ∷ rest) = before first M
-    between (some last) [] = held last
-    between (some p) (q ∷ rest) = line p q M
+    between None [] = held no_point
+    between None (first ∷ rest) = before first M
+    between (Some last) [] = held last
+    between (Some p) (q ∷ rest) = line p q M
 
 -- The values of all queries, and the number of times that a query was set against a point.
 pub record Walk : Type 0 where
@@ -61,7 +60,7 @@ walk_from stand (M ∷ Ms) =
     record { values = (read_at one.ends M).value ∷ rest.values; compared = one.compared + rest.compared }
 
 abbrev pub start : StoneyNose → Stand
-start nose = record { passed = none; ahead = points nose }
+start nose = record { passed = None; ahead = points nose }
 
 unfoldable pub walk_of : StoneyNose → List Float → Walk
 walk_of nose Ms = walk_from (start nose) Ms

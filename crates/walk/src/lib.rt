@@ -3,23 +3,24 @@
 // answer is written.
 #![tactic(auto)]
 
-ghost use Rattle.std.specs.Prelude.{◌≡◌, ◌≤◌, length};
-ghost use Rattle.stoney.specs.Stored.{Stored};
-ghost use Rattle.walk.specs.Tests.{given_test, rising_test, most_queries};
-ghost use Rattle.walk.specs.Walk.{read_at, walk_from, walk_of};
+ghost use Rattle.std.specs.Prelude.{◌≡◌, ◌+◌, ◌≤◌, length};
+ghost use Rattle.walk.specs.Tests.{given_test, rising_test};
+ghost use Rattle.walk.specs.Walk.{went, read_at, walk_from};
 ghost use Rattle.walk.specs.Answers.{Answered};
-ghost use Rattle.walk.specs.Places.{stand_at, LegMade, WalkMade};
+ghost use Rattle.walk.specs.Walker.{stand, stood, after, at_first, WalkMade};
 
 use aero_error::{AeroError, Rule, unless};
-use stoney::{DRAG, MACH, POINTS, StoneyNose};
+use stoney::{StoneyNose, StoredPoint};
 
 // The most Mach numbers of one flight.
 pub const QUERIES: usize = 256;
 
-// Where a query ends: how many points are passed then, and how many times it was set against one.
-#[derive(Clone, Copy)]
-struct QueryEnd {
-    passed: usize,
+// Where a walk along a table stands: the last point that it passed, the points from the current one on, and how many times a query was set
+// against one.
+#[derive(Drop)]
+struct Walker<'a> {
+    passed: Option<StoredPoint>,
+    ahead: &'a [StoredPoint],
     compared: usize,
 }
 
@@ -43,84 +44,53 @@ fn check_rising(machs: &[f64]) -> Result<(), AeroError>
     Ok(())
 }
 
-// One query, from where the one before ended: it is set against the current point and moves one on while that point is at or below it.
-fn leg(machs: &[f64; POINTS], first: usize, count: usize, from: usize, mach: f64) -> QueryEnd
-    requires { Stored first count × (from ≤ count) }
-    ensures { LegMade machs.now first count from mach result }
-{
-    let mut passed = from;
-    let mut compared = 0usize;
-    while passed < count {
-        compared += 1;
-        if machs[first + passed] <= mach {
-            passed += 1;
-        } else {
-            return QueryEnd { passed, compared };
+impl Walker<'_> {
+    // One query, from where the one before ended: it is set against the current point and moves one on while that point is at or below it.
+    fn advance(&mut self, mach: f64)
+        requires { self.old.compared + length self.old.ahead.now ≤ usize.MAX }
+        ensures made { stood self.new ≡ after self.old.compared (went (stand self.old) mach) }
+        ensures room { self.new.compared + length self.new.ahead.now ≤ self.old.compared + length self.old.ahead.now + 1 }
+    {
+        while let [point, rest @ ..] = self.ahead {
+            self.compared += 1;
+            if point.mach <= mach {
+                self.passed = Some(*point);
+                self.ahead = rest;
+            } else {
+                return;
+            }
         }
     }
-    QueryEnd { passed, compared }
-}
 
-// What the table says at `mach` once so many points are passed.
-fn value_there(
-    machs: &[f64; POINTS],
-    drags: &[f64; POINTS],
-    first: usize,
-    count: usize,
-    passed: usize,
-    mach: f64,
-) -> f64
-    requires { Stored first count × (passed ≤ count) }
-    ensures { result ≡ (read_at (stand_at machs.now drags.now first count passed) mach).value }
-{
-    if passed == 0 {
-        let first_point = stoney::before_first(machs[first], drags[first], mach);
-        return first_point.value;
+    // What the table says at `mach`, where its query ends.
+    fn value(&self, mach: f64) -> f64
+        ensures { result ≡ (read_at (stand self.now) mach).value }
+    {
+        match (self.passed, self.ahead) {
+            (None, []) => 0.0,
+            (None, [first, ..]) => first.run_down(mach).value,
+            (Some(last), []) => last.drag,
+            (Some(last), [next, ..]) => last.line_to(*next, mach).value,
+        }
     }
-    let next = first + passed;
-    let last = next - 1;
-    if passed < count {
-        let on = stoney::on_line(machs[last], drags[last], machs[next], drags[next], mach);
-        return on.value;
-    }
-    drags[last]
 }
 
 // All queries, one after the other, and how many comparisons they made.
-fn walk_points(
-    machs: &[f64; POINTS],
-    drags: &[f64; POINTS],
-    first: usize,
-    count: usize,
-    queries: &[f64],
-    answers: &mut [f64],
-) -> usize
-    requires { Stored first count × (length queries.now ≤ length answers.old) × (length queries.now ≤ most_queries) }
-    ensures { WalkMade (walk_from (stand_at machs.now drags.now first count 0) queries.now) answers.old result answers.new }
+#[tactic(auto, using(crate::proofs::Turns::none_left))]
+fn walk_along(table: &[StoredPoint], queries: &[f64], answers: &mut [f64]) -> usize
+    requires { length queries.now ≤ length answers.old }
+    ensures { WalkMade (walk_from (at_first table.now) queries.now) answers.old result answers.new }
 {
-    let mut passed = 0usize;
-    let mut compared = 0usize;
-    let mut i = 0usize;
-    while i < queries.len() {
-        let mach = queries[i];
-        let end = leg(machs, first, count, passed, mach);
-        passed = end.passed;
-        compared += end.compared;
-        answers[i] = value_there(machs, drags, first, count, passed, mach);
-        i += 1;
+    let mut walker = Walker {
+        passed: None,
+        ahead: table,
+        compared: 0,
+    };
+    for (i, mach) in queries.iter().enumerate() {
+        walker.advance(*mach);
+        answers[i] = walker.value(*mach);
     }
-    compared
-}
-
-// The walk along a nose's table.
-fn walk_table(nose: StoneyNose, queries: &[f64], answers: &mut [f64]) -> usize
-    requires { (length queries.now ≤ length answers.old) × (length queries.now ≤ most_queries) }
-    ensures { WalkMade (walk_of nose queries.now) answers.old result answers.new }
-{
-    let machs = MACH;
-    let drags = DRAG;
-    let range = nose.points();
-    walk_points(&machs, &drags, range.first, range.count, queries, answers)
+    walker.compared
 }
 
 // The nose's value at each of these Mach numbers, into the first answers, and how many times a query was set against a point.
@@ -129,5 +99,5 @@ pub fn values(nose: StoneyNose, machs: &[f64], answers: &mut [f64]) -> Result<us
 {
     check_given(machs, answers.len())?;
     check_rising(machs)?;
-    Ok(walk_table(nose, machs, answers))
+    Ok(walk_along(nose.table(), machs, answers))
 }

@@ -1,8 +1,8 @@
 -- `values` meets its contract: a failed test is the answer, and what is written once all have passed is the walk's, whose values are the single lookup's.
 use Rattle.std.specs.Prelude.{Ok, Err}
-use Rattle.aero_error.specs.Checks.{◌then◌, unless, Check}
+use Rattle.aero_error.specs.Checks.{unless}
 use Rattle.walk.specs.Answers.{Walked}
-use mathlib.Core.Path.{◌≡◌, refl, ap, ◌∙◌}
+use mathlib.Core.Path.{◌≡◌, ap, ◌∙◌}
 use mathlib.Core.List.{List, ◌++◌}
 use Prim.Native.Nat.{ℕ, ◌+◌, ◌≤◌}
 use native.Mathlib.Omega.{arith}
@@ -17,19 +17,21 @@ use Rattle.aero_error.specs.CheckLaws.{both_passed, unless_passed}
 use Rattle.drag.specs.Friction.{machs_test}
 use Rattle.stoney.specs.declared.StoneyNose.{StoneyNose}
 use Rattle.walk.specs.Tests.{most_queries, room_test, given_test, rising_test, flight_test}
-use Rattle.walk.specs.Walk.{walk_of}
+use Rattle.stoney.specs.Points.{Point, points}
+use Rattle.walk.specs.Walk.{walk_from, walk_of}
+use Rattle.walk.specs.Walker.{at_first, WalkMade}
 use Rattle.aero_error.proofs.HandedOn.{handed_on}
-use Rattle.walk.specs.Answers.{count_of, values_of, Answered}
+use Rattle.walk.specs.Answers.{values_of, Answered}
 use Rattle.walk.proofs.SingleLookup.{agree}
 use Rattle.walk.proofs.values.Goals as goal
 use Rattle.walk.proofs.values.Goals.{In_ok-check_rising}
 
-room : (Ms : List Float) (cells : ℕ) → flight_test Ms cells ≡ Ok tt → (length Ms ≤ cells) × (length Ms ≤ most_queries)
+room : (Ms : List Float) (cells : ℕ) → flight_test Ms cells ≡ Ok tt → length Ms ≤ cells
 room Ms cells h =
     let few = unless (ltb most_queries (length Ms)) TooFewCells in
     let lent = unless (ltb cells (length Ms)) TooFewCells in
-    let b = both_passed few lent (both_passed (room_test Ms cells) (machs_test Ms) (both_passed (given_test Ms cells) (rising_test Ms) h).first).first in
-    (ltb-false cells (length Ms) (unless_passed _ TooFewCells b.second), ltb-false most_queries (length Ms) (unless_passed _ TooFewCells b.first))
+    ltb-false cells (length Ms)
+    (unless_passed _ TooFewCells (both_passed few lent (both_passed (room_test Ms cells) (machs_test Ms) (both_passed (given_test Ms cells) (rising_test Ms) h).first).first).second)
 
 -- put into the first cells, with the others after them
 front : (vs : List Float) (n : ℕ) (xs : List Float) → length vs ≡ n → n ≤ length xs → sets xs 0 vs ≡ vs ++ drop n xs
@@ -39,11 +41,13 @@ module _ (nose : StoneyNose) (Ms xs : List Float) where
   refused : (r : Walked) (e : AeroError) → flight_test Ms (length xs) ≡ Err e → r ≡ Err e → Answered nose Ms xs r xs
   refused r e failed answer = record { answer = rw failed answer; cells = rw failed }
 
-  accepted : (r : Walked) (n : ℕ) (ys : List Float) → flight_test Ms (length xs) ≡ Ok tt → r ≡ Ok n → n ≡ count_of nose Ms → ys ≡ sets xs 0 (walk_of nose Ms).values → Answered nose Ms xs r ys
-  accepted r n ys passed answer count cells =
+  accepted : (ps : List Point) (n : ℕ) (ys : List Float) → flight_test Ms (length xs) ≡ Ok tt → ps ≡ points nose → WalkMade (walk_from (at_first ps) Ms) xs n ys → Answered nose Ms xs (Ok n) ys
+  unfolding walk_of
+  accepted ps n ys passed its made =
+      let own : WalkMade (walk_of nose Ms) xs n ys = rw its at made in
       record {
-        answer = rw (passed, ← count) answer;
-        cells = rw passed (cells ∙ ap (sets xs 0) (agree nose Ms (length xs) passed) ∙ front (values_of nose Ms) (length Ms) xs (length-map Ms _) (room Ms (length xs) passed).0);
+        answer = rw passed (ap Ok own.0);
+        cells = rw passed (own.1 ∙ ap (sets xs 0) (agree nose Ms (length xs) passed) ∙ front (values_of nose Ms) (length Ms) xs (length-map Ms _) (room Ms (length xs) passed));
       }
 
 -- all tests have passed
@@ -60,11 +64,8 @@ returns-in_err-check_rising c =
     let a = c.args in
     refused a.nose a.machs.now a.answers.now _ _ (rw (← c.check_given.ensures, c.in_ok-check_given.was, ← c.check_rising.ensures, c.in_err-check_rising.was)) (handed_on _ _ c.from_residual-in_err-check_rising.ensures)
 
-pub walk_table-requires : goal.walk_table-requires
-walk_table-requires c = let a = c.args in room a.machs.now (length a.answers.now) (passed (goal.at.walk_table-requires c).In_ok-check_rising)
+pub walk_along-requires : goal.walk_along-requires
+walk_along-requires c = let a = c.args in room a.machs.now (length a.answers.now) (passed (goal.at.walk_along-requires c).In_ok-check_rising)
 
 pub returns : goal.returns
-returns c =
-    let a = c.args in
-    let walked = c.walk_table.ensures in
-    accepted a.nose a.machs.now a.answers.now _ _ _ (passed (goal.at.returns c).In_ok-check_rising) refl walked.0 walked.1
+returns c = let a = c.args in accepted a.nose a.machs.now a.answers.now _ _ _ (passed (goal.at.returns c).In_ok-check_rising) c.table.ensures.points c.walk_along.ensures
