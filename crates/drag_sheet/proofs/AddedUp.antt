@@ -3,12 +3,11 @@
 use Rattle.std.specs.Prelude.{Result, is_some, Some, Option, None}
 use Rattle.aero_error.specs.Checks.{Coefficient, ◌for_value◌}
 use mathlib.Core.Path.{◌≡◌, refl, sym, ap, ◌∙◌}
-use mathlib.Core.Logic.{dite, inl}
+use mathlib.Core.Logic.{inl}
 use mathlib.Core.Bool.{Bool, true, false, ◌||◌, false≢true}
-use mathlib.Core.List.{List}
-use Prim.Native.Nat.{ℕ, zero, suc, ◌≤◌, ◌<◌}
-use native.Mathlib.Nat.{not-suc-le-zero}
-use native.Mathlib.Decide.{ℕ_discrete}
+use mathlib.Core.List.{List, [], ◌∷◌}
+use Prim.Native.Nat.{ℕ, zero, suc, ◌<◌}
+use native.Mathlib.Nat.{not-suc-le-zero, le_of_suc-le-suc}
 use native.Mathlib.Omega.{arith}
 use lib.ListN.{length, get_or, take}
 use lib.Seq.{length-take-le, get_or-take}
@@ -21,12 +20,10 @@ use Rattle.drag.specs.Friction.{wall_of, friction_on, body_friction_form_factor,
 use Rattle.drag.specs.Flows.{friction_in, in_flow}
 use Rattle.sheet_data.specs.declared.Settings.{Settings}
 use Rattle.sheet_data.specs.declared.Part.{Part}
-use Rattle.sheet_data.specs.declared.Design.{Design}
-use Rattle.sheet_data.specs.declared.Sheet.{Sheet}
-use Rattle.sheet_data.specs.Contents.{contents_of, part_at, part_taken, mach_at, reynolds_at}
+use Rattle.sheet_data.specs.Contents.{Contents, part_at, mach_at, reynolds_at}
 use Rattle.sheet_data.specs.Tables.{tab, tab_long, tab_at, tab_same}
 use Rattle.drag_sheet.specs.Formulas.{value_of, roughness_of, formed_friction, sum_to, friction_cell}
-use Rattle.drag_sheet.specs.Body.{friction_row_cells, any_own, flow_at, Flows, formed, formed_for}
+use Rattle.drag_sheet.specs.Body.{friction_row_cells, any_own, no_flow, flow_at, Flows, formed, formed_for}
 use Rattle.drag_sheet.proofs.Sums.{sum_same}
 
 or_right : (a : Bool) → (a || true) ≡ true
@@ -34,18 +31,18 @@ or_right true = refl
 or_right false = refl
 
 -- a part with a roughness of its own is seen
-seen : (n i : ℕ) (ps : List Part) → i < n → is_some (part_at ps i).roughness ≡ true → any_own n ps ≡ true
-unfolding any_own
-seen zero i ps h e = absurd (not-suc-le-zero h)
-seen (suc n) i ps h e = dite (ℕ_discrete i n) (λ q. rw (← q, e) (or_right (any_own i ps))) (λ q. rw (seen n i ps (omega arith) e))
+seen : (ps : List Part) (i : ℕ) → i < length ps → is_some (part_at ps i).roughness ≡ true → any_own ps ≡ true
+seen [] i h e = absurd (not-suc-le-zero h)
+seen (p ∷ ps) zero h e = rw e refl
+seen (p ∷ ps) (suc i) h e = rw (seen ps i (le_of_suc-le-suc h) e) (or_right (is_some p.roughness))
 
 -- so where none is seen, each part's roughness is the settings'
-not_own : (n i : ℕ) (ps : List Part) (k : Float) → i < n → any_own n ps ≡ false → roughness_of (part_at ps i).roughness k ≡ k
-not_own n i ps k h none = by_case (part_at ps i).roughness refl
+not_own : (ps : List Part) (i : ℕ) (k : Float) → i < length ps → any_own ps ≡ false → roughness_of (part_at ps i).roughness k ≡ k
+not_own ps i k h none = by_case (part_at ps i).roughness refl
   where
     by_case : (r : Option Float) → (part_at ps i).roughness ≡ r → roughness_of r k ≡ k
     by_case None q = refl
-    by_case (Some x) q = absurd (false≢true (sym none ∙ seen n i ps h (ap is_some q)))
+    by_case (Some x) q = absurd (false≢true (sym none ∙ seen ps i h (ap is_some q)))
 
 -- ---- what is added for a part
 
@@ -54,6 +51,10 @@ module _ (s : Settings) (flows : List (Result Flow AeroError)) (F : Flows s flow
   on_flow x k h =
       ap (λ (c : Coefficient). value_of c ⊗ value_of (body_friction_form_factor s.body_fineness))
       (ap (λ (flow : Result Flow AeroError). flow for_value friction_in (wall_of x)) (F.at k h) ∙ in_flow (wall_of x) true (reynolds_at s k) (mach_at s k) (inl refl) ∙ on_wall_lem x (reynolds_at s k) (mach_at s k))
+
+  -- the flows of the columns that count alone
+  pub flows_taken : Flows s (take s.count flows)
+  flows_taken = record { long = omega (arith, length-take-le s.count flows F.long); at = λ k h. get_or-take s.count flows k no_flow h ∙ F.at k h }
 
   formed_is : (r : Option Float) (common : Float) (k : ℕ) → k < s.count → common ≡ formed (wall_of s.roughness) (value_of (body_friction_form_factor s.body_fineness)) (flow_at flows k)
       → formed_for r common (value_of (body_friction_form_factor s.body_fineness)) (flow_at flows k) ≡ formed_friction s (roughness_of r s.roughness) (mach_at s k) (reynolds_at s k)
@@ -70,36 +71,30 @@ once_filled s wall form e q =
 
 -- ---- the row added up is the row of the formula
 
-module _ (sheet : Sheet) (fits : sheet.design.count ≤ length sheet.design.parts) where
+module _ (c : Contents) where
   abbrev s : Settings
-  s = sheet.settings
+  s = c.settings
 
-  abbrev d : Design
-  d = sheet.design
+  abbrev ps : List Part
+  ps = c.parts
 
   -- from what is added for each part at each column
-  added : (common : List Float) (f : ℕ → ℕ → Float) → length common ≡ sheet.settings.count
-      → ((k i : ℕ) → k < sheet.settings.count → i < sheet.design.count → f k i ≡ formed_friction sheet.settings (roughness_of (part_at sheet.design.parts i).roughness sheet.settings.roughness) (mach_at sheet.settings k) (reynolds_at sheet.settings k))
-      → tab (length common) (λ k. sum_to sheet.design.count (λ i. f k i ⊗ (part_at sheet.design.parts i).wetted_ratio))
-      ≡ friction_row_cells (contents_of sheet)
+  added : (common : List Float) (f : ℕ → ℕ → Float) → length common ≡ c.settings.count
+      → ((k i : ℕ) → k < c.settings.count → i < length c.parts → f k i ≡ formed_friction c.settings (roughness_of (part_at c.parts i).roughness c.settings.roughness) (mach_at c.settings k) (reynolds_at c.settings k))
+      → tab (length common) (λ k. sum_to (length c.parts) (λ i. f k i ⊗ (part_at c.parts i).wetted_ratio)) ≡ friction_row_cells c
   unfolding friction_cell
   added common f long same =
-      rw long
-      (tab_same s.count _ _ (λ k h.
-      rw (length-take-le d.count d.parts fits)
-      (sum_same d.count _ _ (λ i l. rw (part_taken d.count i d.parts l) (ap (λ (x : Float). x ⊗ (part_at d.parts i).wetted_ratio) (same k i h l))))))
+      rw long (tab_same s.count _ _ (λ k h. sum_same (length ps) _ _ (λ i l. ap (λ (x : Float). x ⊗ (part_at ps i).wetted_ratio) (same k i h l))))
 
-  pub own_added : (flows : List (Result Flow AeroError)) (form : Float) (common : List Float) → form ≡ value_of (body_friction_form_factor sheet.settings.body_fineness) → Flows sheet.settings flows
-      → common ≡ tab sheet.settings.count (λ k. formed (wall_of sheet.settings.roughness) form (flow_at flows k))
-      → tab (length common) (λ k. sum_to sheet.design.count (λ i. formed_for (part_at sheet.design.parts i).roughness (get_or common k nan) form (flow_at flows k) ⊗ (part_at sheet.design.parts i).wetted_ratio))
-      ≡ friction_row_cells (contents_of sheet)
-  own_added flows form common e F c =
-      added common (λ k i. formed_for (part_at d.parts i).roughness (get_or common k nan) form (flow_at flows k)) (ap length c ∙ tab_long s.count _)
-      (λ k i h l. rw e (formed_is s flows F (part_at d.parts i).roughness (get_or common k nan) k h (ap (λ (xs : List Float). get_or xs k nan) c ∙ tab_at s.count _ nan k h ∙ rw e)))
+  pub own_added : (flows : List (Result Flow AeroError)) (form : Float) (common : List Float) → form ≡ value_of (body_friction_form_factor c.settings.body_fineness) → Flows c.settings flows
+      → common ≡ tab c.settings.count (λ k. formed (wall_of c.settings.roughness) form (flow_at flows k))
+      → tab (length common) (λ k. sum_to (length c.parts) (λ i. formed_for (part_at c.parts i).roughness (get_or common k nan) form (flow_at flows k) ⊗ (part_at c.parts i).wetted_ratio)) ≡ friction_row_cells c
+  own_added flows form common e F q =
+      added common (λ k i. formed_for (part_at ps i).roughness (get_or common k nan) form (flow_at flows k)) (ap length q ∙ tab_long s.count _)
+      (λ k i h l. rw e (formed_is s flows F (part_at ps i).roughness (get_or common k nan) k h (ap (λ (xs : List Float). get_or xs k nan) q ∙ tab_at s.count _ nan k h ∙ rw e)))
 
-  pub common_added : (common : List Float) → any_own sheet.design.count sheet.design.parts ≡ false → common ≡ tab sheet.settings.count (λ k. formed_friction sheet.settings sheet.settings.roughness (mach_at sheet.settings k) (reynolds_at sheet.settings k))
-      → tab (length common) (λ k. sum_to sheet.design.count (λ i. get_or common k nan ⊗ (part_at sheet.design.parts i).wetted_ratio))
-      ≡ friction_row_cells (contents_of sheet)
-  common_added common none c =
-      added common (λ k i. get_or common k nan) (ap length c ∙ tab_long s.count _)
-      (λ k i h l. ap (λ (xs : List Float). get_or xs k nan) c ∙ tab_at s.count _ nan k h ∙ rw (not_own d.count i d.parts s.roughness l none))
+  pub common_added : (common : List Float) → any_own c.parts ≡ false → common ≡ tab c.settings.count (λ k. formed_friction c.settings c.settings.roughness (mach_at c.settings k) (reynolds_at c.settings k))
+      → tab (length common) (λ k. sum_to (length c.parts) (λ i. get_or common k nan ⊗ (part_at c.parts i).wetted_ratio)) ≡ friction_row_cells c
+  common_added common none q =
+      added common (λ k i. get_or common k nan) (ap length q ∙ tab_long s.count _)
+      (λ k i h l. ap (λ (xs : List Float). get_or xs k nan) q ∙ tab_at s.count _ nan k h ∙ rw (not_own ps i s.roughness l none))

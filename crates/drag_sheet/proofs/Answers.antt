@@ -1,7 +1,7 @@
 -- From what a call's functions say to what its contract says: what passed tests show, a refused call, all rows written, the rows of a replaced part written.
 use Rattle.std.specs.Prelude.{Ok, Err}
 use Rattle.aero_error.specs.Checks.{unless, Check}
-use mathlib.Core.Path.{◌≡◌, refl, sym, ap, ◌∙◌}
+use mathlib.Core.Path.{◌≡◌, refl, ap, ◌∙◌}
 use mathlib.Core.List.{List}
 use Prim.Native.Nat.{ℕ, ◌≤◌, ◌<◌}
 use lib.ListN.{length, drop}

@@ -1,5 +1,5 @@
 -- The rows of a replaced part written one after the other are the rows that its call names; and the sheets that the calls leave are those with the contents left.
-use Rattle.std.specs.Prelude.{Ok, Err}
+use Rattle.std.specs.Prelude.{Ok}
 use Rattle.aero_error.specs.Checks.{◌then◌, Check}
 use mathlib.Core.Path.{◌≡◌, refl, sym, ap, ◌∙◌}
 use mathlib.Core.List.{List, [], ◌∷◌, ◌++◌}
@@ -19,7 +19,7 @@ use Rattle.drag_sheet.specs.Build.{row_test, row_of}
 use Rattle.drag_sheet.specs.Writing.{chosen, rows, totalled, overwritten}
 use Rattle.drag_sheet.specs.Calls.{Answer, Call, replace, insert, remove, set_column, insert_at, remove_at, with_column, with_nozzle, row_test_where, replaced_rows, nozzle_rows, body_rows, tries, scope, after, call_test, sheet_with, answered, Called}
 use Rattle.drag_sheet.specs.Edits.{replaced_in, Changed, NozzlePut}
-use Rattle.drag_sheet.proofs.Answers.{call_facts, called, contents_with}
+use Rattle.drag_sheet.proofs.Answers.{called, contents_with}
 use Rattle.drag_sheet.proofs.Slots.{inserted_long, removed_long}
 
 module _ (c : Contents) (xs : List Float) (place : ℕ) where

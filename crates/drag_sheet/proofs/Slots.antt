@@ -1,7 +1,7 @@
 -- The slots of a design as insert and remove leave them: some parts copied one slot up or down.
-use Rattle.std.specs.Prelude.{◌≡◌, List, [], ◌∷◌, ◌++◌, ℕ, suc, ◌+◌, ◌-◌, ◌≤◌, ◌<◌, length, take, drop, set}
+use Rattle.std.specs.Prelude.{◌≡◌, List, [], ◌∷◌, ◌++◌, ℕ, ◌+◌, ◌-◌, ◌≤◌, ◌<◌, length, take, drop, set}
 use Rattle.std.proofs.Common.{sym, ap, ◌∙◌, append_assoc, add-one, arith, length-take-le, length-append, length-drop}
-use Rattle.std.proofs.lemmas.List.{drop-take, take-append-drop}
+use Rattle.std.proofs.lemmas.List.{drop-take}
 use lib.Seq.{set_split, take_at, take-take, drop_at, drop-drop}
 use Rattle.sheet_data.specs.declared.Part.{Part}
 use Rattle.drag_sheet.specs.Calls.{insert_at, remove_at}

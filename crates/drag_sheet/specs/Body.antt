@@ -1,7 +1,8 @@
 -- The rows of the whole body as the code works them out: the base with its share of the reference area, and the friction with what each column and each roughness
 -- decides worked out once.
-use Rattle.std.specs.Prelude.{◌≡◌, Bool, true, false, ◌||◌, List, ℕ, zero, suc, ◌≤◌, ◌<◌, get_or, replicate, Float, is_some, Option, Some, None, Result, Ok}
+use Rattle.std.specs.Prelude.{◌≡◌, Bool, true, List, ℕ, ◌≤◌, ◌<◌, length, get_or, replicate, Float, is_some, Option, Some, None, Result, Ok}
 use Rattle.std.specs.Float.{nan}
+use Rattle.std.specs.List.{list_any}
 use Rattle.elementary.specs.Arithmetic.{◌⊕◌, ◌⊗◌}
 use Rattle.elementary.specs.Constants.{0·0}
 use Rattle.aero_error.specs.declared.AeroError.{AeroError}
@@ -16,7 +17,7 @@ use Rattle.sheet_data.specs.declared.Settings.{Settings}
 use Rattle.sheet_data.specs.declared.Part.{Part}
 use Rattle.sheet_data.specs.declared.Sheet.{Sheet}
 use Rattle.sheet_data.specs.Layout.{most_parts, most_columns}
-use Rattle.sheet_data.specs.Contents.{Contents, part_at, mach_at, reynolds_at}
+use Rattle.sheet_data.specs.Contents.{Contents, mach_at, reynolds_at}
 use Rattle.sheet_data.specs.Tables.{tab}
 use Rattle.drag_sheet.specs.Formulas.{value_of, friction_cell}
 
@@ -37,10 +38,9 @@ pub record SumAsked (sheet : Sheet) (sum : List Float) : Type 0 where
   pub parts : sheet.design.count ≤ most_parts
   pub zeros : sum ≡ replicate sheet.settings.count 0·0
 
--- whether any of the first n parts has a roughness of its own
-unfoldable pub any_own : ℕ → List Part → Bool
-any_own zero ps = false
-any_own (suc n) ps = any_own n ps || is_some (part_at ps n).roughness
+-- whether any of the parts has a roughness of its own
+abbrev pub any_own : List Part → Bool
+any_own = list_any (λ p. is_some p.roughness)
 
 -- what a read past the last column would give; nothing looks there
 abbrev pub no_flow : Result Flow AeroError
@@ -51,6 +51,7 @@ flow_at flows k = get_or flows k no_flow
 
 -- the flow of each column, for frictions on any wall
 pub record Flows (s : Settings) (flows : List (Result Flow AeroError)) : Type 0 where
+  pub long : s.count ≤ length flows
   pub at : (k : ℕ) → k < s.count → flow_at flows k ≡ flow_of true (reynolds_at s k) (mach_at s k)
 
 -- friction × form factor, on a wall, and for a part of this roughness, `common` being that of the settings' roughness

@@ -11,7 +11,7 @@ use Rattle.sheet_data.specs.Contents.{Contents, contents_of}
 use Rattle.sheet_data.specs.Rows.{written}
 use Rattle.drag_sheet.specs.Calls.{with_nozzle, sheet_with, row_test_where, nozzle_rows, body_rows, replaced_rows}
 use Rattle.drag_sheet.specs.Build.{row_test, cell_at}
-use Rattle.drag_sheet.specs.Writing.{chosen, rows, whole, overwritten}
+use Rattle.drag_sheet.specs.Writing.{chosen, rows, overwritten}
 
 abbrev pub replaced_in : Design → ℕ → Part → Design
 replaced_in d place p = record { count = d.count; parts = set d.parts place p }

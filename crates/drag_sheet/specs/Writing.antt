@@ -1,5 +1,5 @@
 -- What is written over the lent cells, from the contents as a call leaves them: some rows and then the totals, one column, or all.
-use Rattle.std.specs.Prelude.{◌≡◌, List, ℕ, ◌-◌, get_or, set, Float, Ok, Err}
+use Rattle.std.specs.Prelude.{◌≡◌, List, ℕ, ◌-◌, ◌<◌, length, get_or, set, Float, Ok, Err}
 use Rattle.aero_error.specs.Checks.{Check}
 use Rattle.std.specs.Float.{nan}
 use Rattle.sheet_data.specs.Layout.{finishes, friction_row, base_row, total_row, all_rows}
@@ -16,6 +16,11 @@ chosen (Err e) given left = given
 pub record Filled (test : Check) (cells : List Float) (r : Check) (out : List Float) : Type 0 where
   pub verdict : r ≡ test
   pub made : test ≡ Ok tt → out ≡ cells
+
+-- cells made anew, each from itself and what stands at its place in a list
+pub record EachMade {A B : Type 0} (made : A → B → A → Type 0) (list : List B) (old new : List A) : Type 0 where
+  pub long : length new ≡ length old
+  pub at : (d : A) (e : B) (k : ℕ) → k < length old → made (get_or old k d) (get_or list k e) (get_or new k d)
 
 -- which cells a call writes. Rows are named the last first; the totals, which follow them, are not named
 pub data Scope : Type 0 where

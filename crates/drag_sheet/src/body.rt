@@ -7,6 +7,7 @@ ghost use Rattle.sheet_data.specs.Tables.{tab};
 ghost use Rattle.drag_sheet.specs.Formulas.{base_ratio, base_area};
 ghost use Rattle.drag_sheet.specs.Body.{base_over};
 
+use crate::cells::each_cell;
 use crate::part::area_ratio;
 use sheet_data::{Design, Sheet};
 
@@ -51,7 +52,7 @@ pub(crate) fn fill_base(area: f64, machs: &[f64], out: &mut [f64])
     requires { length machs.now ≡ length out.old }
     ensures { out.new ≡ tab (length out.old) (λ k. base_over area (get_or machs.now k nan)) }
 {
-    for (i, cell) in out.iter_mut().enumerate() {
-        *cell = drag::base_drag_coefficient(machs[i]).unwrap_or(0.0) * area;
-    }
+    each_cell(out, machs, |_, mach| {
+        drag::base_drag_coefficient(mach).unwrap_or(0.0) * area
+    });
 }

@@ -5,27 +5,23 @@ ghost use Rattle.std.specs.Float.{nan};
 ghost use Rattle.elementary.specs.Arithmetic.{◌⊕◌, ◌⊗◌};
 ghost use Rattle.elementary.specs.Constants.{0·0};
 ghost use Rattle.drag.specs.Friction.{wall_of, friction_on};
-ghost use Rattle.sheet_data.specs.Layout.{most_parts, most_columns};
-ghost use Rattle.sheet_data.specs.Contents.{contents_of, part_at};
+ghost use Rattle.sheet_data.specs.Layout.{most_columns};
+ghost use Rattle.sheet_data.specs.Contents.{contents_of, parts_of, part_at};
 ghost use Rattle.sheet_data.specs.Tables.{tab};
 ghost use Rattle.drag_sheet.specs.Formulas.{value_of, sum_to};
 ghost use Rattle.drag_sheet.specs.Body.{friction_row_cells, SumAsked, any_own, flow_at, Flows, formed, formed_for, four_more};
 
+use crate::cells::each_cell;
 use aero_error::AeroError;
 use drag::{Flow, Wall};
 use sheet_data::layout::COLUMNS;
-use sheet_data::{Design, Settings, Sheet};
+use sheet_data::{Part, Settings, Sheet};
 
 // Whether any part has a roughness of its own.
-fn any_own(design: Design) -> bool
-    requires { design.count ≤ most_parts }
-    ensures { result ≡ any_own design.count design.parts }
+fn any_own(parts: &[Part]) -> bool
+    ensures { result ≡ any_own parts.now }
 {
-    let mut own = false;
-    for part in &design.parts[..design.count] {
-        own = own | part.roughness.is_some();
-    }
-    own
+    parts.iter().any(|part| part.roughness.is_some())
 }
 
 // The flow of each column.
@@ -45,14 +41,14 @@ fn flows_of(settings: Settings) -> [Result<Flow, AeroError>; COLUMNS]
     flows
 }
 
-// Friction times form factor on a wall where each column is asked once.
-fn fill_once(wall: Wall, form: f64, machs: &[f64], reynolds: &[f64], out: &mut [f64])
-    requires { (length machs.now ≡ length out.old) × (length reynolds.now ≡ length out.old) }
-    ensures { out.new ≡ tab (length out.old) (λ k. value_of (friction_on wall (get_or reynolds.now k nan) (get_or machs.now k nan)) ⊗ form) }
+// Friction times form factor on a wall where each column is asked once, in place of its Mach number.
+fn fill_once(wall: Wall, form: f64, reynolds: &[f64], cells: &mut [f64])
+    requires { length reynolds.now ≡ length cells.old }
+    ensures { cells.new ≡ tab (length cells.old) (λ k. value_of (friction_on wall (get_or reynolds.now k nan) (get_or cells.old k nan)) ⊗ form) }
 {
-    for (i, cell) in out.iter_mut().enumerate() {
-        *cell = drag::friction_on(wall, reynolds[i], machs[i]).unwrap_or(0.0) * form;
-    }
+    each_cell(cells, reynolds, |mach, reynolds| {
+        drag::friction_on(wall, reynolds, mach).unwrap_or(0.0) * form
+    });
 }
 
 // Friction times form factor on a wall in a flow.
@@ -65,13 +61,11 @@ fn formed(wall: Wall, form: f64, flow: Result<Flow, AeroError>) -> f64
 }
 
 // The same in the flow of each column.
-fn fill_on(wall: Wall, form: f64, flows: [Result<Flow, AeroError>; COLUMNS], out: &mut [f64])
-    requires { length out.old ≤ most_columns }
-    ensures { out.new ≡ tab (length out.old) (λ k. formed wall form (flow_at flows k)) }
+fn fill_on(wall: Wall, form: f64, flows: &[Result<Flow, AeroError>], out: &mut [f64])
+    requires { length flows.now ≡ length out.old }
+    ensures { out.new ≡ tab (length out.old) (λ k. formed wall form (flow_at flows.now k)) }
 {
-    for (i, cell) in out.iter_mut().enumerate() {
-        *cell = formed(wall, form, flows[i]);
-    }
+    each_cell(out, flows, |_, flow| formed(wall, form, flow));
 }
 
 // Adds a part's friction, column by column: `formed` is friction times form factor.
@@ -79,9 +73,7 @@ fn add_part(formed: &[f64], wetted_ratio: f64, sum: &mut [f64])
     requires { length formed.now ≡ length sum.old }
     ensures { sum.new ≡ tab (length sum.old) (λ k. get_or sum.old k nan ⊕ get_or formed.now k nan ⊗ wetted_ratio) }
 {
-    for (i, cell) in sum.iter_mut().enumerate() {
-        *cell = *cell + formed[i] * wetted_ratio;
-    }
+    each_cell(sum, formed, |sum, x| sum + x * wetted_ratio);
 }
 
 // The same of four parts, one after the other, so that the sum is read and written once for all four.
@@ -89,41 +81,38 @@ fn add_four(formed: &[f64], a: f64, b: f64, c: f64, d: f64, sum: &mut [f64])
     requires { length formed.now ≡ length sum.old }
     ensures { sum.new ≡ tab (length sum.old) (λ k. four_more (get_or sum.old k nan) (get_or formed.now k nan) a b c d) }
 {
-    for (i, cell) in sum.iter_mut().enumerate() {
-        let x = formed[i];
-        *cell = *cell + x * a + x * b + x * c + x * d;
-    }
+    each_cell(sum, formed, |sum, x| sum + x * a + x * b + x * c + x * d);
 }
 
 // Adds the friction of a part with a roughness of its own.
 fn add_own(
     roughness: f64,
     form: f64,
-    flows: [Result<Flow, AeroError>; COLUMNS],
+    flows: &[Result<Flow, AeroError>],
     wetted_ratio: f64,
     sum: &mut [f64],
 )
-    requires { length sum.old ≤ most_columns }
-    ensures { sum.new ≡ tab (length sum.old) (λ k. get_or sum.old k nan ⊕ formed (wall_of roughness) form (flow_at flows k) ⊗ wetted_ratio) }
+    requires { length flows.now ≡ length sum.old }
+    ensures { sum.new ≡ tab (length sum.old) (λ k. get_or sum.old k nan ⊕ formed (wall_of roughness) form (flow_at flows.now k) ⊗ wetted_ratio) }
 {
     let wall = drag::wall_of(roughness);
-    for (i, cell) in sum.iter_mut().enumerate() {
-        *cell = *cell + formed(wall, form, flows[i]) * wetted_ratio;
-    }
+    each_cell(sum, flows, |sum, flow| {
+        sum + formed(wall, form, flow) * wetted_ratio
+    });
 }
 
 // Adds the parts' frictions by place to `sum`, which holds +0; `common` is friction times form factor at the settings' roughness.
 fn add_by_place(
-    design: Design,
+    parts: &[Part],
     common: &[f64],
     form: f64,
-    flows: [Result<Flow, AeroError>; COLUMNS],
+    flows: &[Result<Flow, AeroError>],
     sum: &mut [f64],
 )
-    requires { (design.count ≤ most_parts) × (length common.now ≤ most_columns) × (sum.old ≡ replicate (length common.now) 0·0) }
-    ensures { sum.new ≡ tab (length common.now) (λ k. sum_to design.count (λ i. formed_for (part_at design.parts i).roughness (get_or common.now k nan) form (flow_at flows k) ⊗ (part_at design.parts i).wetted_ratio)) }
+    requires { (length flows.now ≡ length common.now) × (sum.old ≡ replicate (length common.now) 0·0) }
+    ensures { sum.new ≡ tab (length common.now) (λ k. sum_to (length parts.now) (λ i. formed_for (part_at parts.now i).roughness (get_or common.now k nan) form (flow_at flows.now k) ⊗ (part_at parts.now i).wetted_ratio)) }
 {
-    for part in &design.parts[..design.count] {
+    for part in parts {
         match part.roughness {
             None => add_part(common, part.wetted_ratio, sum),
             Some(k) => add_own(k, form, flows, part.wetted_ratio, sum),
@@ -132,24 +121,24 @@ fn add_by_place(
 }
 
 // The same of parts none of which has a roughness of its own.
-fn add_common(design: Design, common: &[f64], sum: &mut [f64])
-    requires { (design.count ≤ most_parts) × (sum.old ≡ replicate (length common.now) 0·0) }
-    ensures { sum.new ≡ tab (length common.now) (λ k. sum_to design.count (λ i. get_or common.now k nan ⊗ (part_at design.parts i).wetted_ratio)) }
+fn add_common(parts: &[Part], common: &[f64], sum: &mut [f64])
+    requires { sum.old ≡ replicate (length common.now) 0·0 }
+    ensures { sum.new ≡ tab (length common.now) (λ k. sum_to (length parts.now) (λ i. get_or common.now k nan ⊗ (part_at parts.now i).wetted_ratio)) }
 {
-    let fours = design.count / 4;
+    let fours = parts.len() / 4;
     for four in 0..fours {
         let place = 4 * four;
         add_four(
             common,
-            design.parts[place].wetted_ratio,
-            design.parts[place + 1].wetted_ratio,
-            design.parts[place + 2].wetted_ratio,
-            design.parts[place + 3].wetted_ratio,
+            parts[place].wetted_ratio,
+            parts[place + 1].wetted_ratio,
+            parts[place + 2].wetted_ratio,
+            parts[place + 3].wetted_ratio,
             sum,
         );
     }
-    for place in 4 * fours..design.count {
-        add_part(common, design.parts[place].wetted_ratio, sum);
+    for place in 4 * fours..parts.len() {
+        add_part(common, parts[place].wetted_ratio, sum);
     }
 }
 
@@ -161,7 +150,8 @@ fn sum_own(sheet: Sheet, sum: &mut [f64])
     let settings = sheet.settings;
     let count = settings.count;
     let form = drag::body_friction_form_factor(settings.body_fineness).unwrap_or(0.0);
-    let flows = flows_of(settings);
+    let all = flows_of(settings);
+    let flows = &all[..count];
     let mut common = [0.0; COLUMNS];
     fill_on(
         drag::wall_of(settings.roughness),
@@ -169,27 +159,31 @@ fn sum_own(sheet: Sheet, sum: &mut [f64])
         flows,
         &mut common[..count],
     );
-    add_by_place(sheet.design, &common[..count], form, flows, sum);
+    let parts = &sheet.design.parts[..sheet.design.count];
+    add_by_place(parts, &common[..count], form, flows, sum);
 }
 
 // The same where none has.
 fn sum_common(sheet: Sheet, sum: &mut [f64])
-    requires { SumAsked sheet sum.old × (any_own sheet.design.count sheet.design.parts ≡ false) }
+    requires { SumAsked sheet sum.old × (any_own (parts_of sheet.design) ≡ false) }
     ensures { sum.new ≡ friction_row_cells (contents_of sheet) }
 {
     let settings = sheet.settings;
     let count = settings.count;
     let form = drag::body_friction_form_factor(settings.body_fineness).unwrap_or(0.0);
     let wall = drag::wall_of(settings.roughness);
-    let mut common = [0.0; COLUMNS];
+    let mut common = settings.machs;
     fill_once(
         wall,
         form,
-        &settings.machs[..count],
         &settings.reynolds[..count],
         &mut common[..count],
     );
-    add_common(sheet.design, &common[..count], sum);
+    add_common(
+        &sheet.design.parts[..sheet.design.count],
+        &common[..count],
+        sum,
+    );
 }
 
 // The friction row, added up in `sum`, which holds +0.
@@ -197,7 +191,7 @@ pub(crate) fn sum_parts(sheet: Sheet, sum: &mut [f64])
     requires { SumAsked sheet sum.old }
     ensures { sum.new ≡ friction_row_cells (contents_of sheet) }
 {
-    if any_own(sheet.design) {
+    if any_own(&sheet.design.parts[..sheet.design.count]) {
         sum_own(sheet, sum);
     } else {
         sum_common(sheet, sum);

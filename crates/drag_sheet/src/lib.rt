@@ -11,6 +11,7 @@ ghost use Rattle.drag_sheet.specs.Calls.{insert as insert_call, remove as remove
 ghost use Rattle.drag_sheet.specs.Edits.{RowAsked, NextWritten, Changed, NozzlePut};
 
 mod body;
+mod cells;
 mod edits;
 mod friction;
 mod part;

@@ -13,6 +13,7 @@ ghost use Rattle.drag_sheet.specs.Writing.{there, total_there, totalled, column_
 ghost use Rattle.drag_sheet.specs.Calls.{nozzle_rows, body_rows, set_column as column_call, after, column_trial};
 ghost use Rattle.drag_sheet.specs.Edits.{ColumnAsked, cell_of_column};
 
+use crate::cells::each_cell;
 use crate::{body, edits, friction, part};
 use aero_error::AeroError;
 use sheet_data::Sheet;
@@ -41,9 +42,7 @@ fn add_row(sum: &mut [f64], row: &[f64])
     requires { length row.now ≡ length sum.old }
     ensures { sum.new ≡ tab (length sum.old) (λ k. get_or sum.old k nan ⊕ get_or row.now k nan) }
 {
-    for (i, cell) in sum.iter_mut().enumerate() {
-        *cell = *cell + row[i];
-    }
+    each_cell(sum, row, |sum, x| sum + x);
 }
 
 // Adds up the part rows, column by column, into `sum`, which holds +0.

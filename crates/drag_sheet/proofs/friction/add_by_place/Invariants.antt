@@ -9,4 +9,4 @@ use Rattle.drag_sheet.specs.Body.{flow_at, formed_for}
 use Rattle.drag_sheet.proofs.friction.add_by_place.Given as goal
 
 abbrev pub invariant-loop-part : goal.invariant-loop-part
-invariant-loop-part l = l.sum ≡ tab (length l.common) (λ k. sum_to l.part-index (λ i. formed_for (part_at l.fn.design.parts i).roughness (get_or l.common k nan) l.form (flow_at l.flows k) ⊗ (part_at l.fn.design.parts i).wetted_ratio))
+invariant-loop-part l = l.sum ≡ tab (length l.common) (λ k. sum_to l.part-index (λ i. formed_for (part_at l.fn.parts i).roughness (get_or l.common k nan) l.form (flow_at l.flows k) ⊗ (part_at l.fn.parts i).wetted_ratio))

@@ -1,17 +1,8 @@
 -- `fill_once` meets its contract.
-use Rattle.std.proofs.Common.{arith}
+use Rattle.std.proofs.Common.{rules}
 use Rattle.std.specs.Float.{nan}
-use Rattle.sheet_data.specs.Tables.{fill_none, fill_more, fill_end}
+use Rattle.drag_sheet.proofs.Each.{each_tab}
 use Rattle.drag_sheet.proofs.friction.fill_once.Goals as goal
 
-pub loop-i-preserved : goal.loop-i-preserved
-loop-i-preserved c = let l = c.loop-i in fill_more _ _ l.invariant (omega (arith, l.invariant.long)) (rw (c.unwrap_or.ensures, c.friction_on.ensures))
-
-pub loop-i-init : goal.loop-i-init
-loop-i-init c = fill_none _ _
-
-pub shape_of-out : goal.shape_of-out
-shape_of-out c = c.loop-i.invariant.long
-
 pub returns : goal.returns
-returns c = fill_end nan _ c.loop-i.invariant (omega (arith, c.loop-i.invariant.long))
+returns c = each_tab nan nan (λ k r e. search rules) c.each_cell.ensures

@@ -8,7 +8,7 @@ pub loop-i-preserved : goal.loop-i-preserved
 loop-i-preserved c = fill_more _ _ c.loop-i.invariant (omega arith) c.flow_of.ensures
 
 pub returns : goal.returns
-returns c = record { at = λ k h. c.loop-i.invariant.done no_flow k (omega arith) }
+returns c = record { long = omega (arith, c.loop-i.invariant.long); at = λ k h. c.loop-i.invariant.done no_flow k (omega arith) }
 
 pub loop-i-init : goal.loop-i-init
 loop-i-init c = fill_none _ _

@@ -1,5 +1,5 @@
 -- `build_column` meets its contract: the sheet with that column alone is built.
-use Rattle.std.proofs.Common.{rules, ◌≡◌, refl, ap, ◌∙◌, arith, length}
+use Rattle.std.proofs.Common.{rules, ◌≡◌, refl, arith, length}
 use Rattle.std.specs.Prelude.{Float}
 use Rattle.std.proofs.lemmas.List.{length-replicate}
 use Rattle.sheet_data.specs.Layout.{most_columns}

@@ -9,7 +9,7 @@ use Rattle.aero_error.proofs.HandedOn.{handed_on}
 use Rattle.elementary.specs.Constants.{0·0}
 use Rattle.aero_error.specs.CheckLaws.{up_failed, up_end}
 use Rattle.sheet_data.specs.Layout.{most_parts}
-use Rattle.sheet_data.specs.Contents.{contents_of, part_taken}
+use Rattle.sheet_data.specs.Contents.{contents_of}
 use Rattle.sheet_data.specs.Rows.{from, rows_written}
 use Rattle.sheet_data.specs.RowLaws.{middle_long, from_below, rows_same}
 use Rattle.drag_sheet.specs.Build.{trial, row_of}

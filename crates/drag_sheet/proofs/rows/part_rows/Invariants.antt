@@ -1,6 +1,6 @@
 -- The loop of `part_rows`: the rows of the places before this one are written, and each of them could be.
 use mathlib.Core.List.{List}
-use Prim.Native.Nat.{ℕ, ◌-◌}
+use Prim.Native.Nat.{ℕ}
 use lib.ListN.{take}
 use Rattle.elementary.specs.Constants.{0·0}
 use Rattle.sheet_data.specs.declared.Part.{Part}

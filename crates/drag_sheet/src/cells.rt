@@ -1,0 +1,13 @@
+// A row of cells made anew, each from itself and what stands at its place in a list.
+ghost use Rattle.std.specs.Prelude.{◌≡◌, length};
+ghost use Rattle.drag_sheet.specs.Writing.{EachMade};
+
+pub(crate) fn each_cell<T: Copy, F: Fn(f64, T) -> f64>(cells: &mut [f64], list: &[T], make: F)
+    requires calls { F.IsAlwaysCallable make }
+    requires long { length list.now ≡ length cells.old }
+    ensures { EachMade (λ x y r. F.post make x y r) list.now cells.old cells.new }
+{
+    for (i, cell) in cells.iter_mut().enumerate() {
+        *cell = make(*cell, list[i]);
+    }
+}
