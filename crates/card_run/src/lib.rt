@@ -31,6 +31,7 @@ fn run_parts(s: &[u8], start: usize, sheet: &mut Sheet, cells: &mut [f64]) -> Re
     ensures { Stopped (all_part_cards s.now start sheet.old cells.old) (run_stopped result sheet.new) cells.new }
 {
     let mut at = start;
+    // No `for`: where the next card begins is known once this one is read.
     while at < s.len() {
         let (part, next) = cards::read_part(s, at)?;
         let count = sheet.design.count;

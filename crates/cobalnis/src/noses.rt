@@ -27,10 +27,10 @@ pub fn cobalnis_nose_point(nose: u32, place: usize, out: &mut [u64; 2]) -> u32
     if range.count <= place {
         return status_of(AeroError::Broken(Rule::NoSuchPlace));
     }
-    let at = range.first + place;
+    let point = stoney::point_at(range.first + place);
     *out = [
-        elementary::to_bits(stoney::mach_at(at)),
-        elementary::to_bits(stoney::drag_at(at)),
+        elementary::to_bits(point.mach),
+        elementary::to_bits(point.drag),
     ];
     0
 }

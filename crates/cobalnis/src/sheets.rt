@@ -1,4 +1,5 @@
-// The sheet's calls on a sheet of words, answered in words.
+// The sheet's calls on a sheet of words, answered in words. The six calls on an open sheet stay apart: one function that takes the call as a closure
+// would know nothing of the cells that the closure borrows, and `CallDone` is about them.
 ghost use Rattle.std.specs.Prelude.{◌≡◌};
 ghost use Rattle.drag_sheet.specs.Calls.{insert as insert_call, remove as remove_call, replace as replace_call, set_column as column_call, ignite as ignite_call, burnout as burnout_call};
 ghost use Rattle.cobalnis.specs.Words.{part_of};

@@ -163,7 +163,7 @@ fn sum_own(sheet: Sheet, sum: &mut [f64])
     add_by_place(parts, &common[..count], form, flows, sum);
 }
 
-// The same where none has.
+// The same where none has. For speed each column is asked once, and no flow is kept.
 fn sum_common(sheet: Sheet, sum: &mut [f64])
     requires { SumAsked sheet sum.old × (any_own (parts_of sheet.design) ≡ false) }
     ensures { sum.new ≡ friction_row_cells (contents_of sheet) }

@@ -1,4 +1,5 @@
 // The rows of a sheet over lent cells: where one begins, one written, the last rows written anew, all of them built from nothing, and a column.
+// The sheet and its cells stay two parameters, with `Fits` in each contract: Rattle has no ghost field beside a `&mut`.
 ghost use Rattle.std.specs.Prelude.{◌≡◌, ◌+◌, ◌*◌, ◌≤◌, ◌<◌, length, get_or, replicate};
 ghost use Rattle.std.specs.Float.{nan};
 ghost use Rattle.elementary.specs.Arithmetic.{◌⊕◌};

@@ -27,7 +27,8 @@ pub const LN_2: f64 = 0.6931471805599453;
 // 2^-52, the unit in the last place of 1.
 const ULP_OF_ONE: f64 = 0.0000000000000002220446049250313080847263336181640625;
 
-// A NaN, and +infinity: the language has no literal for either.
+// A NaN, and +infinity: the language has no literal for either. A test for a NaN is `x != x`, as in the definitions: `is_nan` of std says it by another
+// name, and goals that the check closes now stay open.
 pub fn nan() -> f64
     ensures { result ≡ nan }
 {

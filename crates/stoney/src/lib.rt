@@ -100,25 +100,17 @@ pub struct ValueAndSlope {
     pub slope: f64,
 }
 
-// The Mach number at a place of the table, and +0 past its end.
-pub fn mach_at(place: usize) -> f64
-    ensures { result ≡ mach_at place }
+// The point at a place of the table; past its end both numbers are +0.
+pub fn point_at(place: usize) -> StoredPoint
+    ensures { (result.mach ≡ mach_at place) × (result.drag ≡ drag_at place) }
 {
     if place < POINTS {
-        TABLE[place].mach
+        TABLE[place]
     } else {
-        0.0
-    }
-}
-
-// The drag at a place of the table, and +0 past its end.
-pub fn drag_at(place: usize) -> f64
-    ensures { result ≡ drag_at place }
-{
-    if place < POINTS {
-        TABLE[place].drag
-    } else {
-        0.0
+        StoredPoint {
+            mach: 0.0,
+            drag: 0.0,
+        }
     }
 }
 
@@ -160,20 +152,6 @@ impl StoredPoint {
             slope,
         }
     }
-}
-
-// Below the first point (m, c).
-pub fn before_first(m: f64, c: f64, mach: f64) -> ValueAndSlope
-    ensures { result ≡ before (record { mach = m; drag = c }) mach }
-{
-    StoredPoint { mach: m, drag: c }.run_down(mach)
-}
-
-// On the line from (m0, c0) to (m1, c1).
-pub fn on_line(m0: f64, c0: f64, m1: f64, c1: f64, mach: f64) -> ValueAndSlope
-    ensures { result ≡ line (record { mach = m0; drag = c0 }) (record { mach = m1; drag = c1 }) mach }
-{
-    StoredPoint { mach: m0, drag: c0 }.line_to(StoredPoint { mach: m1, drag: c1 }, mach)
 }
 
 // What these points say at `mach`: they are walked up to the first one above it. A NaN has no point above it.
