@@ -1,5 +1,6 @@
 // The rows of a sheet over lent cells: where one begins, one written, the last rows written anew, all of them built from nothing, and a column.
 // The sheet and its cells stay two parameters, with `Fits` in each contract: Rattle has no ghost field beside a `&mut`.
+// So do a count of columns and the cells. A finish is a plain number below `finishes()`, as a row is below `rows()`.
 ghost use Rattle.std.specs.Prelude.{◌≡◌, ◌+◌, ◌*◌, ◌≤◌, ◌<◌, length, get_or, replicate};
 ghost use Rattle.std.specs.Float.{nan};
 ghost use Rattle.elementary.specs.Arithmetic.{◌⊕◌};
@@ -84,7 +85,8 @@ fn write_total(finish: usize, count: usize, cells: &mut [f64])
     write_row(at, &sum[..count], cells);
 }
 
-// Writes the total rows. They add the cells that are there.
+// Writes the total rows. They add the cells that are there. Alike with `write_frictions` but for the row: a loop that takes the writing of a row as a
+// closure would know nothing of the cells that it borrows.
 fn write_totals(count: usize, cells: &mut [f64])
     requires { (count ≤ most_columns) × (needed count ≤ length cells.old) }
     ensures { cells.new ≡ totalled count cells.old }

@@ -1,5 +1,5 @@
 // The whole number nearest to a square root, for `sqrt`: guessed by floats, tested by whole numbers, and found digit by digit where
-// the test fails.
+// the test fails. That w has at most 54 digits stands in each contract: a struct of one word and that bound would only be opened again in each.
 ghost use Rattle.std.specs.Prelude.{◌≡◌, ◌+◌, ◌*◌, ◌<◌, ◌^◌, IfSome};
 ghost use Rattle.elementary.specs.Root.{nearest_root};
 

@@ -1,6 +1,6 @@
 // The curve of a nose or shoulder from its shape, its fineness ratio and its joint angle, or the refusal of one of them.
 ghost use Rattle.std.specs.Prelude.{◌≡◌};
-ghost use Rattle.nose_drag.specs.Curves.{takes_cone_formula, cone_curve, interpolated as interpolated_of, power_bracket, parabolic_bracket, between_references, ogive as ogive_of, series as series_of, power as power_of, parabolic as parabolic_of, haack as haack_of, shaped as shaped_of, build as build_of, new_curve};
+ghost use Rattle.nose_drag.specs.Curves.{takes_cone_formula, cone_curve, interpolated as interpolated_of, power_bracket, parabolic_bracket, between_references, ogive as ogive_of, series as series_of, haack as haack_of, shaped as shaped_of, build as build_of, new_curve};
 
 use crate::cone::ogive_pressure_drag_factor;
 use crate::curve::{DEPTH, PressureDragCurve, Reference, Transonic};
@@ -202,32 +202,6 @@ fn series(
     Ok(between_references(rest, fineness_ratio, bracket, parameter))
 }
 
-#[tactic(auto, unfolding(crate::specs::Curves::power))]
-fn power(rest: f64, fineness_ratio: f64, n: f64) -> Result<PressureDragCurve, AeroError>
-    ensures { result ≡ power_of rest fineness_ratio n }
-{
-    series(
-        rest,
-        fineness_ratio,
-        power_bracket(n),
-        Quantity::PowerExponent,
-        n,
-    )
-}
-
-#[tactic(auto, unfolding(crate::specs::Curves::parabolic))]
-fn parabolic(rest: f64, fineness_ratio: f64, k: f64) -> Result<PressureDragCurve, AeroError>
-    ensures { result ≡ parabolic_of rest fineness_ratio k }
-{
-    series(
-        rest,
-        fineness_ratio,
-        parabolic_bracket(k),
-        Quantity::ParabolicParameter,
-        k,
-    )
-}
-
 #[tactic(auto, unfolding(crate::specs::Curves::haack))]
 fn haack(rest: f64, fineness_ratio: f64, c: f64) -> Result<PressureDragCurve, AeroError>
     ensures { result ≡ haack_of rest fineness_ratio c }
@@ -242,6 +216,7 @@ fn haack(rest: f64, fineness_ratio: f64, c: f64) -> Result<PressureDragCurve, Ae
 }
 
 // The curve of a shape of some length, from its value at rest.
+#[tactic(auto, unfolding(crate::specs::Curves::power, crate::specs::Curves::parabolic))]
 fn shaped(shape: NoseShape, fineness_ratio: f64, rest: f64) -> Result<PressureDragCurve, AeroError>
     ensures { result ≡ shaped_of shape fineness_ratio rest }
 {
@@ -255,8 +230,26 @@ fn shaped(shape: NoseShape, fineness_ratio: f64, rest: f64) -> Result<PressureDr
             };
             Ok(PressureDragCurve::from_transonic(rest, method, 0.0, DEPTH))
         }
-        NoseShape::PowerSeries { exponent } => power(rest, fineness_ratio, exponent),
-        NoseShape::ParabolicSeries { parameter } => parabolic(rest, fineness_ratio, parameter),
+        NoseShape::PowerSeries { exponent } => {
+            let bracket = power_bracket(exponent);
+            series(
+                rest,
+                fineness_ratio,
+                bracket,
+                Quantity::PowerExponent,
+                exponent,
+            )
+        }
+        NoseShape::ParabolicSeries { parameter } => {
+            let bracket = parabolic_bracket(parameter);
+            series(
+                rest,
+                fineness_ratio,
+                bracket,
+                Quantity::ParabolicParameter,
+                parameter,
+            )
+        }
         NoseShape::Haack { parameter } => haack(rest, fineness_ratio, parameter),
     }
 }

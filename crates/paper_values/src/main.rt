@@ -7,7 +7,8 @@ use drag::joint_pressure_drag_coefficient;
 use nose_drag::PressureDragCurve;
 use shapes::NoseShape;
 
-// The descriptor of standard output.
+// The descriptor of standard output. Lines are written by hand: std's `println!` stands on two axioms of os (errno and strerror_r) that no program
+// here stands on.
 const STDOUT_FILENO: i32 = 1;
 
 // A number below 100 in one or two digits.

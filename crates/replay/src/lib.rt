@@ -140,7 +140,7 @@ impl Tally {
         }
     }
 
-    // Written by hand: `Display` writes through a handle, which the callers of `Counts::write` don't pass.
+    // Written by hand: std's `println!` stands on two axioms of os (errno and strerror_r) that no program here stands on.
     fn write(self, name: &[u8], mark: &[u8], end: &[u8]) {
         io::write_all(STDOUT_FILENO, name);
         io::write_all(STDOUT_FILENO, mark);
