@@ -17,7 +17,8 @@ use sheet_data::{Settings, Sheet};
 pub const STREAM_BYTES: usize = SETTINGS_BYTES + (PARTS + 1) * PART_BYTES;
 
 // A run's answer: what it came to, the card it stopped at, counted from 0, and the sheet as it is
-// then. An accepted run stops past its last card; no bytes count as a settings card.
+// then. An accepted run stops past its last card; no bytes count as a settings card. It is no Result:
+// card and sheet are there either way.
 #[derive(Clone, Copy, Debug, PartialEq)]
 pub struct Run {
     pub outcome: Result<(), AeroError>,

@@ -22,6 +22,7 @@ pub const PART_BYTES: usize = 1 + 1 + 6 * NUMBER_BYTES;
 
 // ---- part cards
 
+// By the card's number: the shape is made only once its parameter is read.
 fn takes_parameter(number: u8) -> bool
     ensures { result ≡ takes_parameter number }
 {

@@ -9,7 +9,7 @@ use crate::answers::{NO_SUCH, hand_out, tested};
 use aero_error::{AeroError, Quantity};
 use shapes::NoseShape;
 
-// What a formula's number names answers.
+// What a formula's number names answers. A number, since C asks by it.
 #[tactic(auto, unfolding(crate::specs::Answers::formula_of))]
 fn formula_of(which: u32, a: f64, b: f64, c: f64, d: f64, e: f64) -> Option<Result<f64, AeroError>>
     ensures { result ≡ formula_of which a b c d e }

@@ -45,9 +45,10 @@ unfoldable pub flow_of : Bool → Float → Float → Result Flow AeroError
 flow_of asked R M = flow_checked M R and_then Ok (flowing (M ≺ 1·0) asked R M)
 
 -- the friction on a wall in a flow
-unfoldable pub friction_in : Wall → Flow → Coefficient
-friction_in wall (Subsonic R turbulent factor) = on_wall wall R λ limited x. cond limited (wall.limited ⊗ factor) (turbulent ⊗ factor)
-friction_in wall (Supersonic R turbulent factor) = on_wall wall R λ limited x. cond limited (max_of (wall.limited ⊘ factor) turbulent) turbulent
+unfoldable pub friction_in : Wall → Result Flow AeroError → Coefficient
+friction_in wall (Err refusal) = Err refusal
+friction_in wall (Ok (Subsonic R turbulent factor)) = on_wall wall R λ limited x. cond limited (wall.limited ⊗ factor) (turbulent ⊗ factor)
+friction_in wall (Ok (Supersonic R turbulent factor)) = on_wall wall R λ limited x. cond limited (max_of (wall.limited ⊘ factor) turbulent) turbulent
 
 -- ---- the same friction
 
@@ -71,11 +72,11 @@ below asked true R rough factor h = refl
 below asked false R rough factor (inl e) = rw e
 below asked false R rough factor (inr e) = absurd (false≢true e)
 
-pub in_flow : (wall : Wall) (asked : Bool) (R M : Float) → (asked ≡ true) ⊎ (limits_at wall R ≡ true) → (flow_of asked R M for_value friction_in wall) ≡ friction_on wall R M
+pub in_flow : (wall : Wall) (asked : Bool) (R M : Float) → (asked ≡ true) ⊎ (limits_at wall R ≡ true) → friction_in wall (flow_of asked R M) ≡ friction_on wall R M
 unfolding flow_of friction_in friction_on compressible
 in_flow wall asked R M h = both (flow_checked M R) (M ≺ 1·0)
   where
-    both : (check : Check) (slow : Bool) → ((check and_then Ok (flowing slow asked R M)) for_value friction_in wall)
+    both : (check : Check) (slow : Bool) → friction_in wall (check and_then Ok (flowing slow asked R M))
         ≡ (check and_then on_wall wall R λ limited rough.
         cond slow (incompressible limited rough R ⊗ slow_factor M) (cond limited (max_of (rough ⊘ fast_factor M) (fast_turbulent R M)) (fast_turbulent R M)))
     both (Err refusal) slow = refl

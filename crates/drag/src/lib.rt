@@ -209,11 +209,11 @@ fn on_wall(wall: Wall, reynolds: f64, rough: f64, smooth: f64) -> Result<f64, Ae
 }
 
 // Skin friction on a wall in a flow (eq. 3.82 to 3.84).
-#[tactic(auto, unfolding(crate::specs::Flows::friction_in))]
-pub fn friction_in(wall: Wall, flow: Flow) -> Result<f64, AeroError>
+#[tactic(auto, unfolding(crate::specs::Flows::friction_in), using(aero_error::proofs::HandedOn::handed_on))]
+pub fn friction_in(wall: Wall, flow: Result<Flow, AeroError>) -> Result<f64, AeroError>
     ensures { result ≡ friction_in wall flow }
 {
-    match flow {
+    match flow? {
         Flow::Subsonic {
             reynolds,
             turbulent,
@@ -236,7 +236,7 @@ pub fn friction_in(wall: Wall, flow: Flow) -> Result<f64, AeroError>
 pub fn friction_on(wall: Wall, reynolds: f64, mach: f64) -> Result<f64, AeroError>
     ensures { result ≡ friction_on wall reynolds mach }
 {
-    let flow = flow_of(!limits(wall, reynolds), reynolds, mach)?;
+    let flow = flow_of(!limits(wall, reynolds), reynolds, mach);
     friction_in(wall, flow)
 }
 

@@ -1,7 +1,7 @@
 -- The friction row as the code adds it up: what is added for a part is the formula's, where none has a roughness of its own (`common_added`) and where some have, with
 -- the flow of each column worked out once (`own_added`).
 use Rattle.std.specs.Prelude.{Result, is_some, Some, Option, None}
-use Rattle.aero_error.specs.Checks.{Coefficient, ◌for_value◌}
+use Rattle.aero_error.specs.Checks.{Coefficient}
 use mathlib.Core.Path.{◌≡◌, refl, sym, ap, ◌∙◌}
 use mathlib.Core.Logic.{inl}
 use mathlib.Core.Bool.{Bool, true, false, ◌||◌, false≢true}
@@ -50,7 +50,7 @@ module _ (s : Settings) (flows : List (Result Flow AeroError)) (F : Flows s flow
   on_flow : (x : Float) (k : ℕ) → k < s.count → formed (wall_of x) (value_of (body_friction_form_factor s.body_fineness)) (flow_at flows k) ≡ formed_friction s x (mach_at s k) (reynolds_at s k)
   on_flow x k h =
       ap (λ (c : Coefficient). value_of c ⊗ value_of (body_friction_form_factor s.body_fineness))
-      (ap (λ (flow : Result Flow AeroError). flow for_value friction_in (wall_of x)) (F.at k h) ∙ in_flow (wall_of x) true (reynolds_at s k) (mach_at s k) (inl refl) ∙ on_wall_lem x (reynolds_at s k) (mach_at s k))
+      (ap (friction_in (wall_of x)) (F.at k h) ∙ in_flow (wall_of x) true (reynolds_at s k) (mach_at s k) (inl refl) ∙ on_wall_lem x (reynolds_at s k) (mach_at s k))
 
   -- the flows of the columns that count alone
   pub flows_taken : Flows s (take s.count flows)

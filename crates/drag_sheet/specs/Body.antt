@@ -6,7 +6,6 @@ use Rattle.std.specs.List.{list_any}
 use Rattle.elementary.specs.Arithmetic.{◌⊕◌, ◌⊗◌}
 use Rattle.elementary.specs.Constants.{0·0}
 use Rattle.aero_error.specs.declared.AeroError.{AeroError}
-use Rattle.aero_error.specs.Checks.{◌for_value◌}
 use Rattle.drag.specs.declared.Wall.{Wall}
 use Rattle.drag.specs.declared.Flow.{Flow}
 use Rattle.drag.specs.declared.Flow.TheVariants.{Subsonic}
@@ -56,7 +55,7 @@ pub record Flows (s : Settings) (flows : List (Result Flow AeroError)) : Type 0 
 
 -- friction × form factor, on a wall, and for a part of this roughness, `common` being that of the settings' roughness
 abbrev pub formed : Wall → Float → Result Flow AeroError → Float
-formed wall form flow = value_of (flow for_value friction_in wall) ⊗ form
+formed wall form flow = value_of (friction_in wall flow) ⊗ form
 
 abbrev pub formed_for : Option Float → Float → Float → Result Flow AeroError → Float
 formed_for None common form flow = common

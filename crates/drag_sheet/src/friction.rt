@@ -55,9 +55,7 @@ fn fill_once(wall: Wall, form: f64, reynolds: &[f64], cells: &mut [f64])
 fn formed(wall: Wall, form: f64, flow: Result<Flow, AeroError>) -> f64
     ensures { result ≡ formed wall form flow }
 {
-    flow.and_then(|flow| drag::friction_in(wall, flow))
-        .unwrap_or(0.0)
-        * form
+    drag::friction_in(wall, flow).unwrap_or(0.0) * form
 }
 
 // The same in the flow of each column.

@@ -176,7 +176,7 @@ fn walk_points(points: &[StoredPoint], mach: f64) -> ValueAndSlope
 }
 
 impl StoneyNose {
-    // The nose of a number, in the order of the Rust's `ALL`; a number above 8 counts as 8. `try_from` refuses it.
+    // The nose of a number, in the order of the Rust's `ALL`; a number above 8 counts as 8. `try_from` refuses it; this one can't fail.
     pub fn of_number(number: u64) -> StoneyNose
         ensures { result ≡ nose_at number }
     {

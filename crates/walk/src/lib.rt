@@ -51,6 +51,7 @@ impl Walker<'_> {
         ensures made { stood self.new ≡ after self.old.compared (went (stand self.old) mach) }
         ensures room { self.new.compared + length self.new.ahead.now ≤ self.old.compared + length self.old.ahead.now + 1 }
     {
+        // No `for`: the walker keeps what is ahead of it for the next query.
         while let [point, rest @ ..] = self.ahead {
             self.compared += 1;
             if point.mach <= mach {
