@@ -71,13 +71,11 @@ def places(folder):
             where = f"{name}:{i} {line.strip()}"
             if re.search(r"\b(while|loop)\b", line):
                 found["3 while and loop"].append(where)
-            if re.search(r"\bas (u8|u32|u64|usize|f64)\b", line):
-                found["4 conversions by `as`"].append(where)
             if re.match(r"\s*(match|if) (kind|which|tag|number|code|what)\b", line):
                 found["1 and 7 a number that says which"].append(where)
             if re.search(r"(\w+) != \1\b", line):
                 found["4 a NaN told by x != x"].append(where)
-            if re.search(r"\b(putc|write_all|write_str|b'0' \+|b'a' )", line):
+            if re.search(r"\bio::(write_all|print_decimal)|b'0' \+|b'a' - |\b(48|87) \+", line):
                 found["4 printing by hand"].append(where)
         for fn, clauses, body in functions(text):
             for fact in {f for c in clauses for f in split_facts(c) if re.search(r"≤|<|Fits|long|Room", f)}:
