@@ -66,18 +66,18 @@ fn first_card(s: &[u8]) -> Result<(Settings, usize), AeroError>
 pub fn run_stream(s: &[u8], cells: &mut [f64]) -> Run
     ensures { Stopped (stream_of s.now cells.old) result cells.new }
 {
-    let mut sheet = Sheet::blank(cards::no_settings());
     let (settings, next) = match first_card(s) {
         Ok(card) => card,
         Err(e) => {
             return Run {
                 outcome: Err(e),
                 card: 0,
-                sheet,
+                sheet: Sheet::blank(cards::no_settings()),
             };
         }
     };
-    if let Err(e) = drag_sheet::open(&mut sheet, settings, cells) {
+    let (mut sheet, opened) = drag_sheet::open(settings, cells);
+    if let Err(e) = opened {
         return Run {
             outcome: Err(e),
             card: 0,

@@ -98,14 +98,13 @@ module _ (call : Call) (sheet left : Sheet) (xs : List Float) (r : Check) (ys : 
   pub whole_accepted : r ≡ Ok tt → Called call sheet xs (record { outcome = Ok tt; sheet = left }) ys
   whole_accepted h = whole_called _ (rw h)
 
-pub opened_refused : (s : Settings) (xs : List Float) (sheet : Sheet) (r : Check) (e : AeroError) → sheet ≡ blank s → settings_test s (length xs) ≡ Err e → r ≡ Err e → Opened s xs (record { outcome = r; sheet = sheet }) xs
-opened_refused s xs sheet r e b t f = record { answer = rw (t, f, b); left = rw t }
+pub opened_refused : (s : Settings) (xs : List Float) (r : Check) (e : AeroError) → settings_test s (length xs) ≡ Err e → r ≡ Err e → Opened s xs (record { outcome = r; sheet = blank s }) xs
+opened_refused s xs r e t f = record { answer = rw (t, f); left = rw t }
 
 -- with no parts nothing is tried
 pub blank_tried : (s : Settings) → trial (contents_of (blank s)) ≡ Ok tt
 unfolding trial
 blank_tried s = up_none _
 
-pub opened_whole : (s : Settings) (xs : List Float) (sheet : Sheet) (r : Check) (ys : List Float) → sheet ≡ blank s → settings_test s (length xs) ≡ Ok tt → AllWritten (contents_of sheet) xs r ys
-    → Opened s xs (record { outcome = r; sheet = sheet }) ys
-opened_whole s xs sheet r ys b p f = record { answer = rw (f.verdict, b, blank_tried s, p); left = f.left ∙ rw (b, blank_tried s, p) }
+pub opened_whole : (s : Settings) (xs : List Float) (r : Check) (ys : List Float) → settings_test s (length xs) ≡ Ok tt → AllWritten (contents_of (blank s)) xs r ys → Opened s xs (record { outcome = r; sheet = blank s }) ys
+opened_whole s xs r ys p f = record { answer = rw (f.verdict, blank_tried s, p); left = f.left ∙ rw (blank_tried s, p) }

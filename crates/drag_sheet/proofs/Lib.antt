@@ -1,6 +1,7 @@
 -- The laws that the functions' proofs share, what each call owes, the theorem over lists, and laws on the calls' definitions: which rows and refusals are whose.
 pub mod Verdicts
 pub mod Sums
+pub mod Fours
 pub mod Each
 pub mod AddedUp
 pub mod ByPlace

@@ -123,20 +123,20 @@ fn add_common(parts: &[Part], common: &[f64], sum: &mut [f64])
     requires { sum.old ≡ replicate (length common.now) 0·0 }
     ensures { sum.new ≡ tab (length common.now) (λ k. sum_to (length parts.now) (λ i. get_or common.now k nan ⊗ (part_at parts.now i).wetted_ratio)) }
 {
-    let fours = parts.len() / 4;
-    for four in 0..fours {
-        let place = 4 * four;
+    let (fours, rest) = parts.as_chunks::<4>();
+    for four in fours {
+        let [a, b, c, d] = four;
         add_four(
             common,
-            parts[place].wetted_ratio,
-            parts[place + 1].wetted_ratio,
-            parts[place + 2].wetted_ratio,
-            parts[place + 3].wetted_ratio,
+            a.wetted_ratio,
+            b.wetted_ratio,
+            c.wetted_ratio,
+            d.wetted_ratio,
             sum,
         );
     }
-    for place in 4 * fours..parts.len() {
-        add_part(common, parts[place].wetted_ratio, sum);
+    for part in rest {
+        add_part(common, part.wetted_ratio, sum);
     }
 }
 

@@ -4,7 +4,7 @@
 #![tactic(auto)]
 
 ghost use Rattle.std.specs.Prelude.{◌≡◌, ◌+◌, ◌<◌, length};
-ghost use Rattle.sheet_data.specs.Contents.{contents_of, Fits};
+ghost use Rattle.sheet_data.specs.Contents.{blank, contents_of, Fits};
 ghost use Rattle.drag_sheet.specs.Build.{row_test, row_of};
 ghost use Rattle.drag_sheet.specs.Writing.{Filled};
 ghost use Rattle.drag_sheet.specs.Calls.{insert as insert_call, remove as remove_call, replace as replace_call, set_column, ignite as ignite_call, burnout as burnout_call, call_test, Called, Opened};
@@ -22,13 +22,20 @@ use sheet_data::checks::{check_nozzle, check_part, check_settings, check_sheet};
 use sheet_data::layout::{COLUMNS, PARTS, ROWS};
 use sheet_data::{Part, Settings, Sheet, layout};
 
-// Opens a sheet with these settings and no parts, and writes all its rows. Refused, it is that sheet too, and the cells stay.
-pub fn open(sheet: &mut Sheet, settings: Settings, cells: &mut [f64]) -> Result<(), AeroError>
-    ensures { Opened settings cells.old (record { outcome = result; sheet = sheet.new }) cells.new }
+// The rows of a sheet with these settings and no parts, once the settings have passed.
+fn write_blank(settings: Settings, cells: &mut [f64]) -> Result<(), AeroError>
+    ensures { Opened settings cells.old (record { outcome = result; sheet = blank settings }) cells.new }
 {
-    *sheet = Sheet::blank(settings);
     check_settings(settings, cells.len())?;
-    rows::write_all(*sheet, cells)
+    rows::write_all(Sheet::blank(settings), cells)
+}
+
+// Opens a sheet with these settings and no parts, and writes all its rows. Refused, it is that sheet too, and the cells stay.
+pub fn open(settings: Settings, cells: &mut [f64]) -> (Sheet, Result<(), AeroError>)
+    ensures { Opened settings cells.old (record { outcome = result.1; sheet = result.0 }) cells.new }
+{
+    let outcome = write_blank(settings, cells);
+    (Sheet::blank(settings), outcome)
 }
 
 fn check_insert(sheet: Sheet, place: usize, part: Part, cells: usize) -> Result<(), AeroError>

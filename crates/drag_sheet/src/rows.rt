@@ -52,11 +52,10 @@ fn add_parts(count: usize, cells: &[f64], sum: &mut [f64])
     requires { (count ≤ most_columns) × (needed count ≤ length cells.now) × (sum.old ≡ replicate count 0·0) }
     ensures { sum.new ≡ tab count (λ k. sum_to most_parts (λ i. there count cells.now i k)) }
 {
-    let mut at = 0usize;
     for row in 0usize..PARTS {
-        let next = at + count;
-        add_row(sum, &cells[at..next]);
-        at = next;
+        let at = offset(row, count);
+        let end = at + count;
+        add_row(sum, &cells[at..end]);
     }
 }
 

@@ -11,15 +11,6 @@ use shapes::NoseShape;
 // here stands on.
 const STDOUT_FILENO: i32 = 1;
 
-// A number below 100 in one or two digits.
-fn write_number(n: u8) {
-    let tens = n / 10 % 10;
-    if 0 < tens {
-        io::write_all(STDOUT_FILENO, &[b'0' + tens]);
-    }
-    io::write_all(STDOUT_FILENO, &[b'0' + n % 10]);
-}
-
 // What was asked, and whether a value or which refusal came.
 fn write_line<T: Drop>(asked: &[u8], answer: Result<T, AeroError>) {
     io::write_all(STDOUT_FILENO, asked);
@@ -29,9 +20,9 @@ fn write_line<T: Drop>(asked: &[u8], answer: Result<T, AeroError>) {
         }
         Err(refusal) => {
             io::write_all(STDOUT_FILENO, b" refused ");
-            write_number(refusal.number());
+            io::print_decimal(STDOUT_FILENO, u64::from(refusal.number()));
             io::write_all(STDOUT_FILENO, b" code ");
-            write_number(refusal.code());
+            io::print_decimal(STDOUT_FILENO, u64::from(refusal.code()));
             io::write_all(STDOUT_FILENO, b"\n");
         }
     }

@@ -28,6 +28,7 @@ fn check_columns(settings: Settings) -> Result<(), AeroError>
     requires { settings.count ≤ most_columns }
     ensures { result ≡ columns_test settings }
 {
+    // By index: over a zip of the two arrays the loop would owe a measure and what three iterators are at.
     for i in 0..settings.count {
         drag::check_flow(settings.machs[i], settings.reynolds[i])?;
     }
@@ -49,9 +50,7 @@ pub fn check_settings(settings: Settings, cells: usize) -> Result<(), AeroError>
     ensures { result ≡ settings_test settings cells }
 {
     let count = settings.count;
-    if COLUMNS < count {
-        return Err(AeroError::Broken(Rule::TooManyColumns));
-    }
+    unless(COLUMNS < count, Rule::TooManyColumns)?;
     check_body(settings)?;
     check_columns(settings)?;
     unless(cells < rows() * count, Rule::TooFewCells)
@@ -100,8 +99,6 @@ pub fn check_sheet(sheet: Sheet, cells: usize) -> Result<(), AeroError>
 {
     check_settings(sheet.settings, cells)?;
     check_nozzle(sheet.nozzle_diameter)?;
-    if PARTS < sheet.design.count {
-        return Err(AeroError::Broken(Rule::DesignFull));
-    }
+    unless(PARTS < sheet.design.count, Rule::DesignFull)?;
     check_parts(sheet.design)
 }

@@ -1,57 +1,66 @@
 -- `add_common` meets its contract.
-use Rattle.std.proofs.Common.{◌≡◌, ℕ, ◌+◌, ◌*◌, refl, sym, ap, ◌∙◌, arith, length, get_or}
-use Rattle.std.specs.Prelude.{Float, ◌/◌}
-use Rattle.std.proofs.lemmas.List.{length-replicate}
+use Rattle.std.proofs.Common.{◌≡◌, ℕ, ◌+◌, ◌*◌, ◌<◌, sym, ap, ◌∙◌, arith, length, get_or}
+use Rattle.std.specs.Prelude.{Float, ◌/◌, []}
 use Rattle.std.specs.Float.{nan}
+use Rattle.std.proofs.lemmas.List.{get_or-drop, length-replicate}
 use Rattle.elementary.specs.Arithmetic.{◌⊗◌}
 use Rattle.elementary.specs.Constants.{0·0}
-use Rattle.sheet_data.specs.Contents.{part_at}
+use Rattle.sheet_data.specs.declared.Part.{Part}
+use Rattle.sheet_data.specs.Contents.{no_part, part_at}
 use Rattle.sheet_data.specs.Tables.{tab_long, tab_same, tab_constant}
 use Rattle.drag_sheet.proofs.Sums.{sum_none, terms_more, four_terms_more}
+use Rattle.drag_sheet.proofs.Fours.{four_at}
 use Rattle.drag_sheet.proofs.friction.add_common.Goals as goal
-use Rattle.drag_sheet.proofs.friction.add_common.Goals.{At-loop-four, At-loop-place}
+use Rattle.drag_sheet.proofs.friction.add_common.Goals.{At-loop-four, At-loop-part}
 
 -- the sum has a cell for each column, in either loop
 sum_long : (c : At-loop-four) → length c.loop-four.sum ≡ length c.args.common.now
 sum_long c = ap length c.loop-four.invariant ∙ tab_long _ _
 
-sum_long2 : (c : At-loop-place) → length c.loop-place.sum ≡ length c.args.common.now
-sum_long2 c = ap length c.loop-place.invariant ∙ tab_long _ _
-
-pub loop-four-preserved : goal.loop-four-preserved
-loop-four-preserved c =
-    let n = 4 * c.loop-four.four in
-    let xs = c.args.common.now in
-    let f : ℕ → ℕ → Float = λ k i. get_or xs k nan ⊗ (part_at c.args.parts.now i).wetted_ratio in
-    let next : 4 * (c.loop-four.four + 1) ≡ n + 4 = omega arith in
-    rw next (four_terms_more (length xs) n f c.loop-four.sum _ (λ k. f k n) (λ k. f k (n + 1)) (λ k. f k (n + 2)) (λ k. f k (n + 3)) c.loop-four.invariant c.add_four.ensures (λ k h. (refl, refl, refl, refl)))
-
-pub loop-place-preserved : goal.loop-place-preserved
-loop-place-preserved c =
-    let n = c.loop-place.place in
-    let xs = c.args.common.now in
-    let f : ℕ → ℕ → Float = λ k i. get_or xs k nan ⊗ (part_at c.args.parts.now i).wetted_ratio in
-    terms_more (length xs) n f c.loop-place.sum _ (λ k. f k n) c.loop-place.invariant c.add_part.ensures (λ k h. refl)
-
-pub returns : goal.returns
-returns c =
-    let l = c.loop-place in
-    let e : l.place ≡ length c.args.parts.now = omega arith in
-    l.invariant ∙ rw e
+sum_long2 : (c : At-loop-part) → length c.loop-part.sum ≡ length c.args.common.now
+sum_long2 c = ap length c.loop-part.invariant ∙ tab_long _ _
 
 pub loop-four-init : goal.loop-four-init
 loop-four-init c = c.requires ∙ tab_constant _ 0·0 ∙ tab_same _ _ _ (λ k h. sym (sum_none _))
 
+pub loop-four-preserved : goal.loop-four-preserved
+loop-four-preserved c =
+    let q = c.loop-four.four-index in
+    let n = 4 * q in
+    let ps = c.args.parts.now in
+    let xs = c.args.common.now in
+    let f : ℕ → ℕ → Float = λ k i. get_or xs k nan ⊗ (part_at ps i).wetted_ratio in
+    let x : ℕ → ℕ → Float = λ j k. get_or xs k nan ⊗ (part_at (get_or c.as_chunks.result.0.now q []) j).wetted_ratio in
+    let next : 4 * (q + 1) ≡ n + 4 = omega arith in
+    let same : (j i k : ℕ) → j < 4 → i ≡ n + j → x j k ≡ f k i = λ j i k h e. rw c.as_chunks.ensures.front (ap (λ (p : Part). get_or xs k nan ⊗ p.wetted_ratio) (four_at ps (length ps / 4) q j i (omega arith) h e (omega arith))) in
+    rw next (four_terms_more (length xs) n f c.loop-four.sum _ (x 0) (x 1) (x 2) (x 3) c.loop-four.invariant c.add_four.ensures
+    (λ k h. (same 0 n k (omega arith) (omega arith), same 1 (n + 1) k (omega arith) (omega arith), same 2 (n + 2) k (omega arith) (omega arith), same 3 (n + 3) k (omega arith) (omega arith))))
+
+pub loop-part-init : goal.loop-part-init
+loop-part-init c =
+    let e : length c.args.parts.now / 4 * 4 + 0 ≡ 4 * c.loop-four.four-index = omega arith in
+    rw e c.loop-four.invariant
+
+pub loop-part-preserved : goal.loop-part-preserved
+loop-part-preserved c =
+    let before = length c.args.parts.now / 4 * 4 in
+    let i = c.loop-part.part-index in
+    let xs = c.args.common.now in
+    let f : ℕ → ℕ → Float = λ k i. get_or xs k nan ⊗ (part_at c.args.parts.now i).wetted_ratio in
+    let next : before + (i + 1) ≡ before + i + 1 = omega arith in
+    rw next (terms_more (length xs) (before + i) f c.loop-part.sum _ (λ k. get_or xs k nan ⊗ (part_at c.as_chunks.result.1.now i).wetted_ratio) c.loop-part.invariant c.add_part.ensures (λ k h. rw c.as_chunks.ensures.back (ap (λ (p : Part). get_or xs k nan ⊗ p.wetted_ratio) (get_or-drop before c.args.parts.now i no_part))))
+
+pub returns : goal.returns
+returns c =
+    let l = c.loop-part in
+    let e : length c.args.parts.now / 4 * 4 + l.part-index ≡ length c.args.parts.now = omega arith in
+    l.invariant ∙ rw e
+
 pub add_four-requires : goal.add_four-requires
 add_four-requires c = sym (sum_long (goal.at.add_four-requires c).At-loop-four)
 
-pub loop-place-init : goal.loop-place-init
-loop-place-init c =
-    let e : c.loop-four.four ≡ length c.args.parts.now / 4 = omega arith in
-    rw (← e) c.loop-four.invariant
-
 pub add_part-requires : goal.add_part-requires
-add_part-requires c = sym (sum_long2 (goal.at.add_part-requires c).At-loop-place)
+add_part-requires c = sym (sum_long2 (goal.at.add_part-requires c).At-loop-part)
 
 pub shape_of-sum : goal.shape_of-sum
-shape_of-sum c = sum_long2 (goal.at.shape_of-sum c).At-loop-place ∙ sym (ap length c.requires ∙ length-replicate _ _)
+shape_of-sum c = sum_long2 (goal.at.shape_of-sum c).At-loop-part ∙ sym (ap length c.requires ∙ length-replicate _ _)
