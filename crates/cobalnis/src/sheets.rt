@@ -44,9 +44,7 @@ fn part_known(part: &[u64; PART_WORDS], words: &[u64; SHEET_WORDS]) -> bool
 pub fn cobalnis_open(words: &mut [u64; SHEET_WORDS], cells: &mut [f64], bits: &mut u64) -> u32
     ensures { OpenShown words.old cells.old result words.new bits.new cells.new }
 {
-    let settings = words::settings_of(words);
-    let mut sheet = Sheet::blank(settings);
-    let outcome = drag_sheet::open(&mut sheet, settings, cells);
+    let (sheet, outcome) = drag_sheet::open(words::settings_of(words), cells);
     show(outcome, sheet, words, bits)
 }
 

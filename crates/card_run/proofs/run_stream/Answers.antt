@@ -16,36 +16,36 @@ returns-in-Err c =
     let e = c.in-Err.e in
     let read = sym c.first_card.ensures ∙ c.in-Err.is in
     stopped_at_lem _ 0 (Err e) (blank no_settings) c.args.cells.now _ (stream_unread c.args.s.now c.args.cells.now (card_of (Err e)) (ap card_of (sym read)) e refl)
-    (ap (λ (z : Sheet). record { outcome = Err e; card = 0; sheet = z }) (c.blank-sheet.ensures ∙ ap blank c.no_settings.ensures)) (omega arith) (never refl)
+    (ap (λ (z : Sheet). record { outcome = Err e; card = 0; sheet = z }) (c.blank.ensures ∙ ap blank c.no_settings.ensures)) (omega arith) (never refl)
 
 -- the settings card was read
 card_read : (c : In-Ok) → first_card c.args.s.now ≡ card_of (Ok c.in-Ok.card)
 card_read c = ap card_of (sym c.first_card.ensures ∙ c.in-Ok.is)
 
-pub returns-in-Err-open : goal.returns-in-Err-open
-returns-in-Err-open c =
-    let e = c.in-Err-open.e in
+pub returns-in-Err-opened : goal.returns-in-Err-opened
+returns-in-Err-opened c =
+    let e = c.in-Err-opened.e in
     let card = card_of (Ok c.in-Ok.card) in
-    let r = refused_open c.open.ensures e c.in-Err-open.is in
-    stopped_at_lem _ 0 (Err e) (blank card.settings) c.open.new.cells _
-    (stream_unopened c.args.s.now c.args.cells.now card (sym (card_read (goal.at.returns-in-Err-open c).In-Ok)) e refl r.0 ∙ ap (stopped_at 0 (Err e) (blank card.settings)) (sym r.2))
+    let r = refused_open c.open-opened.ensures e c.in-Err-opened.is in
+    stopped_at_lem _ 0 (Err e) (blank card.settings) c.open-opened.new.cells _
+    (stream_unopened c.args.s.now c.args.cells.now card (sym (card_read (goal.at.returns-in-Err-opened c).In-Ok)) e refl r.0 ∙ ap (stopped_at 0 (Err e) (blank card.settings)) (sym r.2))
     (ap (λ (z : Sheet). record { outcome = Err e; card = 0; sheet = z }) r.1) (omega arith) (never refl)
 
 pub run_parts-outcome-requires : goal.run_parts-outcome-requires
 run_parts-outcome-requires c =
     let s = c.in-Ok.card.0 in
-    let r = accepted_open c.open.ensures c.in_default.is in
-    subst (λ (z : Sheet). Fits z (length c.open.new.cells)) (sym r.1) (subst (λ (n : ℕ). Fits (blank s) n) (sym c.open.auto.cells) (fits_open s (length c.args.cells.now) r.0))
+    let r = accepted_open c.open-opened.ensures c.in_default.is in
+    subst (λ (z : Sheet). Fits z (length c.open-opened.new.cells)) (sym r.1) (subst (λ (n : ℕ). Fits (blank s) n) (sym c.open-opened.auto.cells) (fits_open s (length c.args.cells.now) r.0))
 
 pub returns : goal.returns
 returns c =
     let a = c.args in
     let card = card_of (Ok c.in-Ok.card) in
     let t = c.run_parts-outcome in
-    let r = accepted_open c.open.ensures c.in_default.is in
+    let r = accepted_open c.open-opened.ensures c.in_default.is in
     let ran = stream_opened a.s.now a.cells.now card (sym (card_read (goal.at.returns c).In-Ok)) refl r.0 in
     let same =
     ran
     ∙ ap (λ (z : Sheet). all_part_cards a.s.now card.next z (overwritten whole (contents_of (blank card.settings)) a.cells.now)) (sym r.1)
-    ∙ ap (λ (zs : List Float). all_part_cards a.s.now card.next c.open.new.sheet zs) (sym r.2) in
+    ∙ ap (λ (zs : List Float). all_part_cards a.s.now card.next c.open-opened.result.0 zs) (sym r.2) in
     subst (λ (z : Ran). Stopped z (run_stopped t.result t.new.sheet) t.new.cells) (sym same) t.ensures
