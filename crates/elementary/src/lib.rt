@@ -27,25 +27,24 @@ pub const LN_2: f64 = 0.6931471805599453;
 // 2^-52, the unit in the last place of 1.
 const ULP_OF_ONE: f64 = 0.0000000000000002220446049250313080847263336181640625;
 
-// A NaN, and +infinity: the language has no literal for either. A test for a NaN is `x != x`, as in the definitions: `is_nan` of std says it by another
-// name, and goals that the check closes now stay open.
+// std's two constants, so that a contract says what they are.
 pub fn nan() -> f64
     ensures { result ≡ nan }
 {
-    0.0 / 0.0
+    f64::NAN
 }
 
 pub fn infinity() -> f64
     ensures { result ≡ inf false }
 {
-    f64::from_bits(0x7ff0_0000_0000_0000)
+    f64::INFINITY
 }
 
 // The bits of x; 7ff8000000000000 for every NaN.
 pub fn to_bits(x: f64) -> u64
     ensures { result ≡ to_bits binary64 x }
 {
-    if x != x {
+    if x.is_nan() {
         return 0x7ff8_0000_0000_0000;
     }
     f64::to_bits(x)
@@ -72,7 +71,7 @@ pub fn from_bits(bits: u64) -> f64
 pub fn is_finite(x: f64) -> bool
     ensures { result ≡ finite x }
 {
-    x - x == 0.0
+    x.is_finite()
 }
 
 // From low to high, both ends included; false at a NaN.
@@ -88,7 +87,7 @@ pub fn max(a: f64, b: f64) -> f64
 {
     if a < b {
         b
-    } else if a != a {
+    } else if a.is_nan() {
         b
     } else {
         a
@@ -222,7 +221,7 @@ fn signed_number(negative: bool, n: u64) -> f64
 pub fn exp(y: f64) -> f64
     ensures { result ≡ EXP y }
 {
-    if y != y {
+    if y.is_nan() {
         return nan();
     }
     if 710.0 <= y {
@@ -246,10 +245,7 @@ pub fn powf(x: f64, y: f64) -> f64
     if x == 1.0 {
         return 1.0;
     }
-    if x != x {
-        return nan();
-    }
-    if y != y {
+    if x.is_nan() || y.is_nan() {
         return nan();
     }
     pow_steps(x, y)

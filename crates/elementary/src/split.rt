@@ -65,7 +65,7 @@ pub struct Whole {
 fn split(x: f64) -> Parts
     ensures { result ≡ split_of x }
 {
-    if x != x {
+    if x.is_nan() {
         return Parts::Nan;
     }
     let bits = f64::to_bits(x);

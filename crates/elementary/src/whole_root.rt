@@ -32,7 +32,7 @@ fn guess(w: u64) -> Option<u64>
     let root = root * step;
     let half = half * step;
     let root = root + (x - root * root) * half;
-    if root != root {
+    if root.is_nan() {
         return None;
     }
     let found = f64::to_bits(root);

@@ -1,7 +1,7 @@
 -- `elementary::powf` meets its contract.
 use Rattle.elementary.specs.Steps.{POW}
-use Rattle.elementary.proofs.Floats.{differs}
 use Rattle.elementary.proofs.powf.Goals as goal
+use Rattle.elementary.proofs.powf.Goals.{then-is_nan-via-then-is_nan, then-is_nan-via-else-is_nan+then-is_nan-2}
 
 pub returns-then-x : goal.returns-then-x
 unfolding POW
@@ -15,14 +15,14 @@ pub returns-then-x-2 : goal.returns-then-x-2
 unfolding POW
 returns-then-x-2 c = rw (c.if-x.false, c.if-y.false, c.if-x-2.true)
 
-pub returns-then-x-3 : goal.returns-then-x-3
+pub returns-then-is_nan : goal.returns-then-is_nan
 unfolding POW
-returns-then-x-3 c = rw (c.if-x.false, c.if-y.false, c.if-x-2.false, ← differs c.args.x, c.if-x-3.true) c.nan-then-x-3.ensures
-
-pub returns-then-y-2 : goal.returns-then-y-2
-unfolding POW
-returns-then-y-2 c = rw (c.if-x.false, c.if-y.false, c.if-x-2.false, ← differs c.args.x, c.if-x-3.false, ← differs c.args.y, c.if-y-2.true) c.nan-then-y-2.ensures
+returns-then-is_nan c =
+    elim c.then-is_nan.branch [
+      | then-is_nan-via-then-is_nan w ↦ rw (c.if-x.false, c.if-y.false, c.if-x-2.false, ← c.is_nan.ensures.value, w.if-is_nan.true) c.nan-then-is_nan.ensures
+      | then-is_nan-via-else-is_nan+then-is_nan-2 w ↦ rw (c.if-x.false, c.if-y.false, c.if-x-2.false, ← c.is_nan.ensures.value, w.if-is_nan.false, ← w.is_nan-else-is_nan.ensures.value, w.if-is_nan-2.true) c.nan-then-is_nan.ensures
+    ]
 
 pub returns : goal.returns
 unfolding POW
-returns c = rw (c.if-x.false, c.if-y.false, c.if-x-2.false, ← differs c.args.x, c.if-x-3.false, ← differs c.args.y, c.if-y-2.false) c.pow_steps.ensures
+returns c = rw (c.if-x.false, c.if-y.false, c.if-x-2.false, ← c.is_nan.ensures.value, c.if-is_nan.false, ← c.is_nan-else-is_nan.ensures.value, c.if-is_nan-2.false) c.pow_steps.ensures

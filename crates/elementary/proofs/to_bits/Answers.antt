@@ -1,11 +1,9 @@
 -- `elementary::to_bits` meets its contract.
+use Rattle.std.proofs.Common.{sym, ◌∙◌}
 use lib.Ieee.{to_bits}
-use Rattle.elementary.proofs.Floats.{is_nan_lem, not_nan}
+use Rattle.elementary.proofs.Floats.{only_nan}
 use Rattle.elementary.proofs.to_bits.Goals as goal
 
-pub returns-then-x : goal.returns-then-x
+pub returns-then-is_nan : goal.returns-then-is_nan
 unfolding to_bits
-returns-then-x c = rw (is_nan_lem c.args.x c.if-x.true)
-
-pub float_to_bits-result : goal.float_to_bits-result
-float_to_bits-result c = not_nan c.args.x c.if-x.false
+returns-then-is_nan c = rw (only_nan c.args.x (sym c.is_nan.ensures.value ∙ c.if-is_nan.true))

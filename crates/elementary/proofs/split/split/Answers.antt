@@ -11,17 +11,14 @@ use Rattle.elementary.specs.declared.split.Parts.TheVariants as parts-of
 use Rattle.elementary.specs.Split.{normalised, finite_parts, split_of}
 use Rattle.elementary.proofs.Bits.{split_class_lem, room, Room}
 use Rattle.elementary.proofs.Classes.{field_narrow}
-use Rattle.elementary.proofs.Floats.{is_nan_lem, not_nan, true_t}
+use Rattle.elementary.proofs.Floats.{only_nan, true_t}
 use Rattle.elementary.proofs.split.split.Goals as goal
 use Rattle.elementary.proofs.split.split.Goals.{After-classify, In-Subnormal}
 
 -- a NaN has no bits to ask for
-pub returns-then-x : goal.returns-then-x
+pub returns-then-is_nan : goal.returns-then-is_nan
 unfolding split_of
-returns-then-x c = rw (is_nan_lem c.args.x c.if-x.true)
-
-pub float_to_bits-bits : goal.float_to_bits-bits
-float_to_bits-bits c = not_nan c.args.x c.if-x.false
+returns-then-is_nan c = rw (only_nan c.args.x (sym c.is_nan.ensures.value ∙ c.if-is_nan.true))
 
 -- the class that was named holds of the bits, and the split is that class's
 holds : (x : Float) (r k : FloatClass) → InClass r (to_bits binary64 x) → r ≡ k → InClass k (to_bits binary64 x)

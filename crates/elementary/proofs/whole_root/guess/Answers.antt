@@ -1,7 +1,7 @@
 -- `elementary::whole_root::guess` meets its contract: no step of it can go wrong, and a guess is from 2 ^ 52 - 1 to 2 ^ 53 - 2.
 use Prim.Native.Nat.{◌<◌}
 use native.Mathlib.Omega.{arith}
-use Rattle.elementary.proofs.Floats.{nan_below, not_nan}
+use Rattle.elementary.proofs.Floats.{nan_below}
 use Rattle.elementary.proofs.whole_root.guess.Goals as goal
 use Rattle.elementary.proofs.whole_root.guess.Goals.{then-w-lt9007199254740992, else-w-lt9007199254740992, Joined-w-lt9007199254740992}
 
@@ -14,6 +14,3 @@ float_from_bits-x c = let h = bits_bound (goal.at.float_from_bits-x c).Joined-w-
 
 pub float_from_bits-y : goal.float_from_bits-y
 float_from_bits-y c = nan_below _ (omega arith)
-
-pub float_to_bits-found : goal.float_to_bits-found
-float_to_bits-found c = not_nan _ c.if-root.false
