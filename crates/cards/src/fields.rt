@@ -46,6 +46,7 @@ pub(crate) fn numbers_at(n: usize, s: &[u8], at: usize) -> [f64; COLUMNS]
     ensures { result ≡ slots n (numbers_at n s.now at) }
 {
     let mut out = [0.0; COLUMNS];
+    // By index: where the second floats are read, the last pair is half a chunk.
     for i in 0..n {
         out[i] = number_at(s, at + PAIR_BYTES * i);
     }

@@ -1,4 +1,4 @@
-// The sheet as each call leaves it.
+// The sheet as each call leaves it. Each says of places and counts what its call has tested: the counts are C's (sheet_data), so no type says it.
 ghost use Rattle.std.specs.Prelude.{◌≡◌, ◌+◌, ◌-◌, ◌≤◌, ◌<◌};
 ghost use Rattle.sheet_data.specs.Layout.{most_parts, most_columns};
 ghost use Rattle.drag_sheet.specs.Calls.{insert as insert_call, remove as remove_call, replace as replace_call, set_column as column_call, left_by};

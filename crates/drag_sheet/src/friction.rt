@@ -35,6 +35,7 @@ fn flows_of(settings: Settings) -> [Result<Flow, AeroError>; COLUMNS]
         factor: 0.0,
     });
     let mut flows = [still; COLUMNS];
+    // By index, as the columns are tested: over a zip the proof has to follow the iterators.
     for i in 0..settings.count {
         flows[i] = drag::flow_of(true, settings.reynolds[i], settings.machs[i]);
     }

@@ -208,11 +208,11 @@ pub(crate) fn write_all(sheet: Sheet, cells: &mut [f64]) -> Result<(), AeroError
 
 // Writes a cell for each row into a column.
 pub(crate) fn write_column(column: usize, count: usize, values: &[f64], cells: &mut [f64])
-    requires { (column < count) × (count ≤ most_columns) × (needed count ≤ length cells.old) × (all_rows finish_count ≤ length values.now) }
+    requires { (column < count) × (count ≤ most_columns) × (needed count ≤ length cells.old) × (length values.now ≡ all_rows finish_count) }
     ensures { cells.new ≡ column_put column count values.now cells.old }
 {
-    for row in 0usize..rows() {
+    for (row, value) in values.iter().enumerate() {
         let at = offset(row, count);
-        cells[at + column] = values[row];
+        cells[at + column] = *value;
     }
 }

@@ -153,7 +153,7 @@ impl Tally {
 
 pub const KINDS: usize = 32;
 
-// The last kind is for lines that ask for nothing.
+// The last kind is for lines that ask for nothing. A number and no Option: such lines are counted like the others.
 pub const NO_KIND: u64 = KINDS as u64 - 1;
 
 // The lines of each kind, and of the whole list.

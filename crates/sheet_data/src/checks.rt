@@ -28,7 +28,7 @@ fn check_columns(settings: Settings) -> Result<(), AeroError>
     requires { settings.count ≤ most_columns }
     ensures { result ≡ columns_test settings }
 {
-    // By index: over a zip of the two arrays the loop would owe a measure and what three iterators are at.
+    // By index: over a zip of the two arrays the proof has to follow three iterators.
     for i in 0..settings.count {
         drag::check_flow(settings.machs[i], settings.reynolds[i])?;
     }

@@ -8,10 +8,10 @@ pub loop-row-preserved : goal.loop-row-preserved
 loop-row-preserved c =
     let o = c.offset-at in
     let at = c.loop-row in
-    put_next c.args.column c.args.count c.args.values.now c.args.cells.now at.cells at.row o.result at.invariant o.ensures.place c.requires.0 c.requires.2 (omega (arith, c.loop-row-test.true, c.rows-row-end.ensures))
+    put_next c.args.column c.args.count c.args.values.now c.args.cells.now at.cells at.row o.result at.invariant o.ensures.place c.requires.0 c.requires.2 (omega (arith, c.loop-row-test.true))
 
 pub returns : goal.returns
-returns c = rows_end c.loop-row.invariant (omega (arith, c.loop-row-test.false, c.rows-row-end.ensures))
+returns c = rows_end c.loop-row.invariant (omega (arith, c.loop-row-test.false))
 
 pub loop-row-init : goal.loop-row-init
 loop-row-init c = rows_none _ _ _ _ _

@@ -1,10 +1,6 @@
 -- The loop of `write_column`: the cells of the rows before this one are put.
-use Prim.Native.Nat.{◌-◌}
 use Rattle.drag_sheet.proofs.Laying.{Putting}
 use Rattle.drag_sheet.proofs.rows.write_column.Given as goal
 
 abbrev pub invariant-loop-row : goal.invariant-loop-row
 invariant-loop-row l = Putting l.column l.count l.values l.initial.cells l.cells l.row
-
-abbrev pub decreases-loop-row : goal.decreases-loop-row
-decreases-loop-row l = l.row-end - l.row
