@@ -1,10 +1,6 @@
 -- The loop of `write_totals`: the totals of the finishes before this one are written.
-use Prim.Native.Nat.{◌-◌}
 use Rattle.drag_sheet.proofs.MadeRows.{TotalsDone}
 use Rattle.drag_sheet.proofs.rows.write_totals.Given as goal
 
 abbrev pub invariant-loop-finish : goal.invariant-loop-finish
 invariant-loop-finish l = TotalsDone l.count l.initial.cells l.cells l.finish
-
-abbrev pub decreases-loop-finish : goal.decreases-loop-finish
-decreases-loop-finish l = l.finish-end - l.finish
