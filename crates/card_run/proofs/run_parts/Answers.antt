@@ -17,20 +17,11 @@ use Rattle.card_run.proofs.run_parts.Goals.{In_ok-part}
 card_read : (c : In_ok-part) → part_at c.args.s.now c.loop-at.at ≡ Ok (c.in_ok-part.part, c.in_ok-part.next)
 card_read c = sym c.read_part.ensures ∙ c.in_ok-part.was
 
-pub loop-at-init : goal.loop-at-init
-loop-at-init c = record { lent = refl; fits = c.requires; same = refl }
-
-pub shape_of-cells-in_err-part : goal.shape_of-cells-in_err-part
-shape_of-cells-in_err-part c = c.loop-at.invariant.lent
-
 pub returns-in_err-part : goal.returns-in_err-part
 returns-in_err-part c =
     let l = c.loop-at in
     stopped_at_lem _ _ _ l.sheet l.cells _ (l.invariant.same ∙ card_refused c.args.s.now l.at l.sheet l.cells _ c.loop-at-test.true (sym c.read_part.ensures ∙ c.in_err-part.was))
     (ap (λ (o : Check). run_stopped o l.sheet) (handed_on _ _ c.from_residual.ensures)) (omega (arith, l.invariant.fits.parts)) (never refl)
-
-pub shape_of-cells-in_err-insert : goal.shape_of-cells-in_err-insert
-shape_of-cells-in_err-insert c = c.insert.auto.cells ∙ c.loop-at.invariant.lent
 
 pub returns-in_err-insert : goal.returns-in_err-insert
 returns-in_err-insert c =
@@ -65,9 +56,6 @@ loop-at-preserved c =
           ∙ ap (λ (z : Sheet). all_part_cards a.s.now next z (cells_then l.sheet part l.cells)) (sym r.1)
           ∙ ap (λ (zs : List Float). all_part_cards a.s.now next c.insert.new.sheet zs) (sym r.2);
     }
-
-pub shape_of-cells : goal.shape_of-cells
-shape_of-cells c = c.loop-at.invariant.lent
 
 pub returns : goal.returns
 returns c =

@@ -1,13 +1,9 @@
 -- `ignite` meets its contract.
 use Rattle.std.proofs.Common.{refl, sym, ◌∙◌, length}
-use Rattle.aero_error.proofs.HandedOn.{handed_on}
 use Rattle.drag_sheet.specs.Calls.{ignite, tries}
-use Rattle.drag_sheet.proofs.Answers.{call_facts, called_refused}
+use Rattle.drag_sheet.proofs.Answers.{call_facts}
 use Rattle.drag_sheet.proofs.Changed.{called_nozzle}
 use Rattle.drag_sheet.proofs.ignite.Goals as goal
-
-pub returns-in_err-check_ignite : goal.returns-in_err-check_ignite
-returns-in_err-check_ignite c = called_refused (ignite c.args.nozzle_diameter) _ _ _ _ (sym c.check_ignite.ensures ∙ c.in_err-check_ignite.was) (handed_on _ _ c.from_residual.ensures)
 
 pub put_nozzle-requires : goal.put_nozzle-requires
 put_nozzle-requires c = (call_facts (ignite c.args.nozzle_diameter) c.args.sheet.now (length c.args.cells.now) (sym c.check_ignite.ensures ∙ c.in_ok-check_ignite.was)).fits

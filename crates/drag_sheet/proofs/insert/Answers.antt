@@ -3,22 +3,13 @@ use Rattle.std.proofs.Common.{refl, sym, ap, ◌∙◌, arith, length}
 use Rattle.aero_error.proofs.HandedOn.{handed_on}
 use Rattle.sheet_data.specs.declared.Sheet.{Sheet}
 use Rattle.drag_sheet.specs.Calls.{insert, tries}
-use Rattle.drag_sheet.proofs.Answers.{Facts, call_facts, bounds, called_refused, whole_refused, whole_accepted}
+use Rattle.drag_sheet.proofs.Answers.{Facts, call_facts, bounds, whole_refused, whole_accepted}
 use Rattle.drag_sheet.proofs.insert.Goals as goal
 use Rattle.drag_sheet.proofs.insert.Goals.{In_ok-check_insert}
 
 -- what the tests have shown
 facts : (c : In_ok-check_insert) → Facts (insert c.args.place c.args.part) c.args.sheet.now (length c.args.cells.now)
 facts c = call_facts (insert c.args.place c.args.part) c.args.sheet.now (length c.args.cells.now) (sym c.check_insert.ensures ∙ c.in_ok-check_insert.was)
-
-pub returns-in_err-check_insert : goal.returns-in_err-check_insert
-returns-in_err-check_insert c = called_refused (insert c.args.place c.args.part) _ _ _ _ (sym c.check_insert.ensures ∙ c.in_err-check_insert.was) (handed_on _ _ c.from_residual.ensures)
-
-pub inserted-left-requires : goal.inserted-left-requires
-inserted-left-requires c =
-    let f = facts (goal.at.inserted-left-requires c).In_ok-check_insert in
-    let b = bounds (insert c.args.place c.args.part) c.args.sheet.now.settings c.args.sheet.now.design.count f.arguments in
-    b
 
 pub write_all-requires : goal.write_all-requires
 write_all-requires c =

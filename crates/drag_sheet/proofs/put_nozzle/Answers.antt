@@ -5,9 +5,6 @@ use Rattle.drag_sheet.specs.Writing.{overwritten}
 use Rattle.drag_sheet.proofs.Changed.{nozzle_sheet}
 use Rattle.drag_sheet.proofs.put_nozzle.Goals as goal
 
-pub write_nozzle_rows-requires : goal.write_nozzle_rows-requires
-write_nozzle_rows-requires c = let f = c.requires in record { columns = f.columns; parts = f.parts; room = f.room }
-
 pub returns : goal.returns
 unfolding overwritten
 returns c =

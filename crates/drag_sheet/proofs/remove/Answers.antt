@@ -3,16 +3,13 @@ use Rattle.std.proofs.Common.{refl, sym, ap, ◌∙◌, arith, length}
 use Rattle.aero_error.proofs.HandedOn.{handed_on}
 use Rattle.sheet_data.specs.declared.Sheet.{Sheet}
 use Rattle.drag_sheet.specs.Calls.{remove, tries}
-use Rattle.drag_sheet.proofs.Answers.{Facts, call_facts, bounds, called_refused, whole_refused, whole_accepted}
+use Rattle.drag_sheet.proofs.Answers.{Facts, call_facts, bounds, whole_refused, whole_accepted}
 use Rattle.drag_sheet.proofs.remove.Goals as goal
 use Rattle.drag_sheet.proofs.remove.Goals.{In_ok-check_remove}
 
 -- what the tests have shown
 facts : (c : In_ok-check_remove) → Facts (remove c.args.place) c.args.sheet.now (length c.args.cells.now)
 facts c = call_facts (remove c.args.place) c.args.sheet.now (length c.args.cells.now) (sym c.check_remove.ensures ∙ c.in_ok-check_remove.was)
-
-pub returns-in_err-check_remove : goal.returns-in_err-check_remove
-returns-in_err-check_remove c = called_refused (remove c.args.place) _ _ _ _ (sym c.check_remove.ensures ∙ c.in_err-check_remove.was) (handed_on _ _ c.from_residual.ensures)
 
 pub removed-left-requires : goal.removed-left-requires
 removed-left-requires c =

@@ -3,7 +3,7 @@ use Rattle.std.proofs.Common.{sym, ap, ◌∙◌, arith, length}
 use Rattle.aero_error.proofs.HandedOn.{handed_on}
 use Rattle.sheet_data.specs.declared.Sheet.{Sheet}
 use Rattle.drag_sheet.specs.Calls.{replace}
-use Rattle.drag_sheet.proofs.Answers.{Facts, call_facts, bounds, called_refused}
+use Rattle.drag_sheet.proofs.Answers.{Facts, call_facts, bounds}
 use Rattle.drag_sheet.proofs.Changed.{called_changed}
 use Rattle.drag_sheet.proofs.replace.Goals as goal
 use Rattle.drag_sheet.proofs.replace.Goals.{In_ok-check_replace}
@@ -11,9 +11,6 @@ use Rattle.drag_sheet.proofs.replace.Goals.{In_ok-check_replace}
 -- what the tests have shown
 facts : (c : In_ok-check_replace) → Facts (replace c.args.place c.args.part) c.args.sheet.now (length c.args.cells.now)
 facts c = call_facts (replace c.args.place c.args.part) c.args.sheet.now (length c.args.cells.now) (sym c.check_replace.ensures ∙ c.in_ok-check_replace.was)
-
-pub returns-in_err-check_replace : goal.returns-in_err-check_replace
-returns-in_err-check_replace c = called_refused (replace c.args.place c.args.part) _ _ _ _ (sym c.check_replace.ensures ∙ c.in_err-check_replace.was) (handed_on _ _ c.from_residual.ensures)
 
 pub replaced-left-requires : goal.replaced-left-requires
 replaced-left-requires c =

@@ -8,7 +8,7 @@ use Rattle.sheet_data.specs.Layout.{most_finishes, finishes_few, all_rows, neede
 use Rattle.drag_sheet.specs.Writing.{overwritten}
 use Rattle.drag_sheet.specs.Calls.{set_column, tries}
 use Rattle.drag_sheet.proofs.Taken.{prefix_long, zeros}
-use Rattle.drag_sheet.proofs.Answers.{Facts, call_facts, bounds, called_refused, called}
+use Rattle.drag_sheet.proofs.Answers.{Facts, call_facts, bounds, called}
 use Rattle.drag_sheet.proofs.set_column.Goals as goal
 use Rattle.drag_sheet.proofs.set_column.Goals.{After-build_column, After-rows-all, In_ok-check_set_column}
 
@@ -25,9 +25,6 @@ small c = omega (arith, c.rows-all.ensures, finishes_few)
 
 made_long : (c : After-build_column) → c.rows-all.result ≤ all_rows most_finishes → length c.build_column.new.cells ≡ c.rows-all.result
 made_long c h = c.build_column.auto.cells ∙ sym (prefix_long _ (replicate (all_rows most_finishes) 0·0) h)
-
-pub returns-in_err-check_set_column : goal.returns-in_err-check_set_column
-returns-in_err-check_set_column c = called_refused (set_column c.args.column c.args.mach c.args.reynolds) _ _ _ _ (sym c.check_set_column.ensures ∙ c.in_err-check_set_column.was) (handed_on _ _ c.from_residual.ensures)
 
 pub build_column-requires : goal.build_column-requires
 build_column-requires c =

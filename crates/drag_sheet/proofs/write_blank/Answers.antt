@@ -1,11 +1,7 @@
 -- `write_blank` meets its contract.
 use Rattle.std.proofs.Common.{sym, ◌∙◌, arith, length}
-use Rattle.aero_error.proofs.HandedOn.{handed_on}
-use Rattle.drag_sheet.proofs.Answers.{settings_facts, opened_refused, opened_whole}
+use Rattle.drag_sheet.proofs.Answers.{settings_facts, opened_whole}
 use Rattle.drag_sheet.proofs.write_blank.Goals as goal
-
-pub returns-in_err-check_settings : goal.returns-in_err-check_settings
-returns-in_err-check_settings c = opened_refused c.args.settings _ _ _ (sym c.check_settings.ensures ∙ c.in_err-check_settings.was) (handed_on _ _ c.from_residual.ensures)
 
 pub write_all-requires : goal.write_all-requires
 write_all-requires c =

@@ -6,11 +6,8 @@ use Rattle.sheet_data.specs.Layout.{most_cells}
 use Rattle.card_run.specs.Run.{stream_of}
 use Rattle.card_run.specs.declared.Run.{Run}
 use Rattle.sheet_text.specs.Text.{run_text, answer_text}
-use Rattle.sheet_text.proofs.Puts.{printed_short, printed_long}
+use Rattle.sheet_text.proofs.Puts.{printed_long}
 use Rattle.sheet_text.proofs.print_stream.Goals as goal
-
-pub returns-then-out-lt-MOST_TEXT : goal.returns-then-out-lt-MOST_TEXT
-returns-then-out-lt-MOST_TEXT c = printed_short c.args.s.now c.args.out.now c.if-out-lt-MOST_TEXT.true
 
 pub returns : goal.returns
 unfolding answer_text

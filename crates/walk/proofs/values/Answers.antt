@@ -20,7 +20,6 @@ use Rattle.walk.specs.Tests.{most_queries, room_test, given_test, rising_test, f
 use Rattle.stoney.specs.Points.{Point, points}
 use Rattle.walk.specs.Walk.{walk_from, walk_of}
 use Rattle.walk.specs.Walker.{at_first, WalkMade}
-use Rattle.aero_error.proofs.HandedOn.{handed_on}
 use Rattle.walk.specs.Answers.{values_of, Answered}
 use Rattle.walk.proofs.SingleLookup.{agree}
 use Rattle.walk.proofs.values.Goals as goal
@@ -53,19 +52,6 @@ module _ (nose : StoneyNose) (Ms xs : List Float) where
 -- all tests have passed
 passed : (c : In_ok-check_rising) → let a = c.args in flight_test a.machs.now (length a.answers.now) ≡ Ok tt
 passed c = rw (← c.check_given.ensures, c.in_ok-check_given.was, ← c.check_rising.ensures, c.in_ok-check_rising.was)
-
-pub returns-in_err-check_given : goal.returns-in_err-check_given
-returns-in_err-check_given c =
-    let a = c.args in
-    refused a.nose a.machs.now a.answers.now _ _ (rw (← c.check_given.ensures, c.in_err-check_given.was)) (handed_on _ _ c.from_residual.ensures)
-
-pub returns-in_err-check_rising : goal.returns-in_err-check_rising
-returns-in_err-check_rising c =
-    let a = c.args in
-    refused a.nose a.machs.now a.answers.now _ _ (rw (← c.check_given.ensures, c.in_ok-check_given.was, ← c.check_rising.ensures, c.in_err-check_rising.was)) (handed_on _ _ c.from_residual-in_err-check_rising.ensures)
-
-pub walk_along-requires : goal.walk_along-requires
-walk_along-requires c = let a = c.args in room a.machs.now (length a.answers.now) (passed (goal.at.walk_along-requires c).In_ok-check_rising)
 
 pub returns : goal.returns
 returns c = let a = c.args in accepted a.nose a.machs.now a.answers.now _ _ _ (passed (goal.at.returns c).In_ok-check_rising) c.table.ensures.points c.walk_along.ensures

@@ -2,23 +2,16 @@
 use Rattle.std.proofs.Common.{◌≡◌, ℕ, ◌+◌, ◌*◌, ◌<◌, sym, ap, ◌∙◌, arith, length, get_or}
 use Rattle.std.specs.Prelude.{Float, ◌/◌, []}
 use Rattle.std.specs.Float.{nan}
-use Rattle.std.proofs.lemmas.List.{get_or-drop, length-replicate}
+use Rattle.std.proofs.lemmas.List.{get_or-drop}
 use Rattle.elementary.specs.Arithmetic.{◌⊗◌}
 use Rattle.elementary.specs.Constants.{0·0}
 use Rattle.sheet_data.specs.declared.Part.{Part}
 use Rattle.sheet_data.specs.Contents.{no_part, part_at}
-use Rattle.sheet_data.specs.Tables.{tab_long, tab_same, tab_constant}
+use Rattle.sheet_data.specs.Tables.{tab_same, tab_constant}
 use Rattle.drag_sheet.proofs.Sums.{sum_none, terms_more, four_terms_more}
 use Rattle.drag_sheet.proofs.Fours.{four_at}
 use Rattle.drag_sheet.proofs.friction.add_common.Goals as goal
 use Rattle.drag_sheet.proofs.friction.add_common.Goals.{At-loop-four, At-loop-part}
-
--- the sum has a cell for each column, in either loop
-sum_long : (c : At-loop-four) → length c.loop-four.sum ≡ length c.args.common.now
-sum_long c = ap length c.loop-four.invariant ∙ tab_long _ _
-
-sum_long2 : (c : At-loop-part) → length c.loop-part.sum ≡ length c.args.common.now
-sum_long2 c = ap length c.loop-part.invariant ∙ tab_long _ _
 
 pub loop-four-init : goal.loop-four-init
 loop-four-init c = c.requires ∙ tab_constant _ 0·0 ∙ tab_same _ _ _ (λ k h. sym (sum_none _))
@@ -36,11 +29,6 @@ loop-four-preserved c =
     rw next (four_terms_more (length xs) n f c.loop-four.sum _ (x 0) (x 1) (x 2) (x 3) c.loop-four.invariant c.add_four.ensures
     (λ k h. (same 0 n k (omega arith) (omega arith), same 1 (n + 1) k (omega arith) (omega arith), same 2 (n + 2) k (omega arith) (omega arith), same 3 (n + 3) k (omega arith) (omega arith))))
 
-pub loop-part-init : goal.loop-part-init
-loop-part-init c =
-    let e : length c.args.parts.now / 4 * 4 + 0 ≡ 4 * c.loop-four.four-index = omega arith in
-    rw e c.loop-four.invariant
-
 pub loop-part-preserved : goal.loop-part-preserved
 loop-part-preserved c =
     let before = length c.args.parts.now / 4 * 4 in
@@ -55,12 +43,3 @@ returns c =
     let l = c.loop-part in
     let e : length c.args.parts.now / 4 * 4 + l.part-index ≡ length c.args.parts.now = omega arith in
     l.invariant ∙ rw e
-
-pub add_four-requires : goal.add_four-requires
-add_four-requires c = sym (sum_long (goal.at.add_four-requires c).At-loop-four)
-
-pub add_part-requires : goal.add_part-requires
-add_part-requires c = sym (sum_long2 (goal.at.add_part-requires c).At-loop-part)
-
-pub shape_of-sum : goal.shape_of-sum
-shape_of-sum c = sum_long2 (goal.at.shape_of-sum c).At-loop-part ∙ sym (ap length c.requires ∙ length-replicate _ _)

@@ -25,16 +25,6 @@ fill_long : (c : After-fill_once) → length c.fill_once.new.cells ≡ c.args.sh
 fill_long c =
     ap length c.fill_once.ensures ∙ tab_long _ _ ∙ sym (prefix_long c.args.sheet.settings.count c.args.sheet.settings.machs (omega (arith, (long (goal.at.After-fill_once c).Start).machs)))
 
-pub fill_once-requires : goal.fill_once-requires
-fill_once-requires c =
-    let S = c.args.sheet.settings in
-    let l = long (goal.at.fill_once-requires c).Start in
-    sym (prefix_long S.count S.reynolds (omega (arith, l.reynolds))) ∙ prefix_long S.count S.machs (omega (arith, l.machs))
-
-pub add_common-requires : goal.add_common-requires
-add_common-requires c =
-    rw (take_at c.fill_once.new.cells _ c.args.sheet.settings.count (fill_long (goal.at.add_common-requires c).After-fill_once), fill_long (goal.at.add_common-requires c).After-fill_once) c.requires.0.zeros
-
 pub returns : goal.returns
 returns c =
     let S = c.args.sheet.settings in

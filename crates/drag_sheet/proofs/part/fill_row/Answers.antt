@@ -27,9 +27,3 @@ returns c =
 
 pub loop-i-init : goal.loop-i-init
 loop-i-init c = record { filled = fill_none _ _; made = up_none _ }
-
-pub shape_of-out-in_err-out : goal.shape_of-out-in_err-out
-shape_of-out-in_err-out c = c.loop-i.invariant.filled.long
-
-pub shape_of-out : goal.shape_of-out
-shape_of-out c = c.loop-i.invariant.filled.long

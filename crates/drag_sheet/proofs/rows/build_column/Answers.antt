@@ -1,17 +1,10 @@
 -- `build_column` meets its contract: the sheet with that column alone is built.
-use Rattle.std.proofs.Common.{rules, ◌≡◌, refl, arith, length}
-use Rattle.std.specs.Prelude.{Float}
-use Rattle.std.proofs.lemmas.List.{length-replicate}
+use Rattle.std.proofs.Common.{rules, ◌≡◌, arith, length}
 use Rattle.sheet_data.specs.Layout.{most_columns}
 use Rattle.sheet_data.specs.Contents.{parts_of}
 use Rattle.drag_sheet.proofs.Verdicts.{filled_same}
 use Rattle.drag_sheet.proofs.OneColumn.{column_tried, column_built}
 use Rattle.drag_sheet.proofs.rows.build_column.Goals as goal
-
-pub build_rows-requires : goal.build_rows-requires
-build_rows-requires c =
-    let f = c.requires in
-    rw (c.one_column-one.ensures, f.zeros) (record { columns = omega arith; parts = f.parts; room = omega (arith, length-replicate {A = Float}) }, refl)
 
 pub returns : goal.returns
 returns c =

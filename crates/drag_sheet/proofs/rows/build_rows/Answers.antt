@@ -3,18 +3,10 @@ use mathlib.Core.Path.{◌≡◌, sym, ◌∙◌}
 use native.Mathlib.Omega.{arith}
 use lib.ListN.{length}
 use lib.Seq.{length-take-le}
-use Rattle.aero_error.proofs.HandedOn.{handed_on}
 use Rattle.sheet_data.specs.Contents.{contents_of, parts_of}
-use Rattle.drag_sheet.proofs.Verdicts.{filled_refused, filled_passed}
+use Rattle.drag_sheet.proofs.Verdicts.{filled_passed}
 use Rattle.drag_sheet.proofs.Laying.{from_nothing}
 use Rattle.drag_sheet.proofs.rows.build_rows.Goals as goal
-
-pub returns-in_err-part_rows : goal.returns-in_err-part_rows
-returns-in_err-part_rows c = filled_refused (sym c.part_rows.ensures.verdict ∙ c.in_err-part_rows.was) (handed_on _ _ c.from_residual.ensures)
-
-pub write_body-requires : goal.write_body-requires
-write_body-requires c =
-    record { columns = c.requires.0.columns; parts = c.requires.0.parts; room = omega (arith, c.requires.0.room, c.part_rows.auto.cells) }
 
 pub returns : goal.returns
 returns c =
@@ -23,6 +15,3 @@ returns c =
     let d = c.args.sheet.design in
     let n : length (parts_of d) ≡ d.count = length-take-le d.count d.parts (omega (arith, c.requires.0.parts, c.well_formed.0.1.1.1.0.1.1.1.0.1.0.1)) in
     filled_passed p (from_nothing (contents_of c.args.sheet) d.count _ _ _ n c.requires.0.parts c.requires.1 (f.ensures.made p) c.write_body.ensures)
-
-pub part_rows-requires : goal.part_rows-requires
-part_rows-requires c = c.requires.0

@@ -1,10 +1,9 @@
 -- `part_rows` meets its contract.
 use mathlib.Core.Path.{◌≡◌, refl, sym, ap, ◌∙◌}
-use Prim.Native.Nat.{ℕ, ◌+◌, ◌-◌, ◌≤◌}
+use Prim.Native.Nat.{ℕ, ◌+◌, ◌≤◌}
 use native.Mathlib.Omega.{arith}
 use lib.ListN.{length, take}
 use lib.Seq.{length-take-le}
-use borrow.Rule.Slice.PartMut.{same_len_mid}
 use Rattle.aero_error.proofs.HandedOn.{handed_on}
 use Rattle.elementary.specs.Constants.{0·0}
 use Rattle.aero_error.specs.CheckLaws.{up_failed, up_end}
@@ -24,23 +23,9 @@ use Rattle.drag_sheet.proofs.rows.part_rows.Goals.{After-offset-at, Start}
 long : (s : Start) → length (take s.args.sheet.design.count s.args.sheet.design.parts) ≡ s.args.sheet.design.count
 long s = length-take-le s.args.sheet.design.count s.args.sheet.design.parts (omega (arith, s.requires.parts, s.well_formed.0.1.1.1.0.1.1.1.0.1.0.1))
 
-pub offset-at-requires : goal.offset-at-requires
-offset-at-requires c = let f = c.requires in (omega (arith, f.parts), f.columns)
-
 -- the row lies within the cells
 inside : (c : After-offset-at) → c.offset-at.result + c.args.sheet.settings.count ≤ length c.loop-place.cells
 inside c = omega (arith, c.offset-at.ensures.inside, c.requires.room, c.loop-place.invariant.rows.long)
-
-pub part_row-requires : goal.part_row-requires
-part_row-requires c =
-    (c.requires.columns, middle_long c.offset-at.result c.args.sheet.settings.count c.loop-place.cells (inside (goal.at.part_row-requires c).After-offset-at))
-
-pub shape_of-cells-in_err-part_row : goal.shape_of-cells-in_err-part_row
-shape_of-cells-in_err-part_row c =
-    let at = c.loop-place in
-    let o = c.offset-at.result in
-    let f = c.part_row in
-    same_len_mid o (o + c.args.sheet.settings.count - o) at.cells f.new.out f.auto.out ∙ at.invariant.rows.long
 
 pub returns-in_err-part_row : goal.returns-in_err-part_row
 unfolding trial
@@ -76,18 +61,3 @@ returns c =
 
 pub loop-place-init : goal.loop-place-init
 loop-place-init c = none_laid _
-
-pub overflow_add-end : goal.overflow_add-end
-overflow_add-end c = omega (arith, c.offset-at.ensures.small)
-
-pub offset_bounds-cells-at : goal.offset_bounds-cells-at
-offset_bounds-cells-at c = omega (arith, c.offset-at.ensures.small)
-
-pub slice_bounds-part_row-start : goal.slice_bounds-part_row-start
-slice_bounds-part_row-start c = omega (arith, inside (goal.at.slice_bounds-part_row-start c).After-offset-at)
-
-pub slice_bounds-part_row-end : goal.slice_bounds-part_row-end
-slice_bounds-part_row-end c = inside (goal.at.slice_bounds-part_row-end c).After-offset-at
-
-pub shape_of-cells : goal.shape_of-cells
-shape_of-cells c = c.loop-place.invariant.rows.long

@@ -5,7 +5,6 @@ use native.Mathlib.Nat.{le_of_eq}
 use native.Mathlib.Omega.{arith}
 use lib.ListN.{length, replicate, length-append}
 use lib.Seq.{take_at}
-use Rattle.aero_error.proofs.HandedOn.{handed_on}
 use Rattle.elementary.specs.Constants.{0·0}
 use Rattle.sheet_data.specs.Layout.{most_cells, needed, needed_few}
 use Rattle.drag_sheet.specs.Writing.{overwritten}
@@ -25,16 +24,9 @@ build_rows-requires c =
     let n = needed_few _ c.requires.columns in
     rw (all (goal.at.build_rows-requires c).After-rows) (record { columns = c.requires.columns; parts = c.requires.parts; room = le_of_eq (prefix_long _ (replicate most_cells 0·0) n) }, zeros 0·0 _ most_cells n)
 
-pub returns-in_err-build_rows : goal.returns-in_err-build_rows
-returns-in_err-build_rows c = let no = sym c.build_rows.ensures.verdict ∙ c.in_err-build_rows.was in record { verdict = rw no (handed_on _ _ c.from_residual.ensures); left = rw no }
-
 -- what was built has as many cells as the sheet needs
 made_long : (c : After-build_rows) → c.rows.result * c.args.sheet.settings.count ≤ most_cells → length c.build_rows.new.cells ≡ c.rows.result * c.args.sheet.settings.count
 made_long c h = c.build_rows.auto.cells ∙ sym (prefix_long _ (replicate most_cells 0·0) h)
-
-pub write_row-requires : goal.write_row-requires
-write_row-requires c =
-    rw (take_at c.build_rows.new.cells _ _ (made_long (goal.at.write_row-requires c).After-build_rows (small (goal.at.write_row-requires c).After-rows)), made_long (goal.at.write_row-requires c).After-build_rows (small (goal.at.write_row-requires c).After-rows), all (goal.at.write_row-requires c).After-rows) (omega (arith, c.requires.room))
 
 pub returns : goal.returns
 unfolding overwritten
@@ -42,9 +34,6 @@ returns c =
     let v = c.build_rows.ensures.verdict in
     let p = sym v ∙ c.in_ok-build_rows.was in
     record { verdict = sym p; left = c.write_row.ensures ∙ rw (p, take_at c.build_rows.new.cells _ _ (made_long (goal.at.returns c).After-build_rows (small (goal.at.returns c).After-rows)), c.build_rows.ensures.made p) }
-
-pub overflow_mul-all : goal.overflow_mul-all
-overflow_mul-all c = omega (arith, small (goal.at.overflow_mul-all c).After-rows)
 
 pub slice_bounds-scratch-end : goal.slice_bounds-scratch-end
 slice_bounds-scratch-end c = omega (arith, small (goal.at.slice_bounds-scratch-end c).After-rows)

@@ -1,30 +1,22 @@
 -- `write_base` meets its contract: the cells that `fill_base` was lent, put back.
-use mathlib.Core.Path.{◌≡◌, sym, ◌∙◌}
+use mathlib.Core.Path.{◌≡◌, ◌∙◌}
 use Prim.Native.Nat.{◌+◌, ◌≤◌}
 use native.Mathlib.Omega.{arith}
 use lib.ListN.{length}
-use Rattle.sheet_data.specs.Layout.{most_columns, finishes, base_row}
+use Rattle.sheet_data.specs.Layout.{finishes, base_row}
 use Rattle.sheet_data.specs.Contents.{contents_of}
 use Rattle.sheet_data.specs.RowLaws.{middle_long, put_row}
 use Rattle.drag_sheet.specs.Formulas.{base_area}
 use Rattle.drag_sheet.specs.Body.{base_over}
 use Rattle.drag_sheet.specs.Build.{row_of}
-use Rattle.drag_sheet.proofs.Taken.{prefix_long, taken_cells}
+use Rattle.drag_sheet.proofs.Taken.{taken_cells}
 use Rattle.drag_sheet.proofs.MadeRows.{base_made}
 use Rattle.drag_sheet.proofs.rows.write_base.Goals as goal
 use Rattle.drag_sheet.proofs.rows.write_base.Goals.{After-offset-at, Start}
 
--- the array holds its Machs
-long : (s : Start) → length s.args.sheet.settings.machs ≡ most_columns
-long s = s.well_formed.0.1.1.0.1.1.1.1.1.1.0.1.0.1
-
 -- there is room for the row from its offset on
 room : (c : After-offset-at) → c.offset-at.result + c.args.sheet.settings.count ≤ length c.args.cells.now
 room c = omega (arith, c.offset-at.ensures.inside, c.requires.room)
-
-pub fill_base-requires : goal.fill_base-requires
-fill_base-requires c =
-    sym (prefix_long _ c.args.sheet.settings.machs (omega (arith, c.requires.columns, long (goal.at.fill_base-requires c).Start))) ∙ sym (middle_long c.offset-at.result c.args.sheet.settings.count c.args.cells.now (room (goal.at.fill_base-requires c).After-offset-at))
 
 pub returns : goal.returns
 returns c =
@@ -34,6 +26,3 @@ returns c =
     let e : f.new.out ≡ row_of (contents_of c.args.sheet) (base_row finishes) =
     f.ensures ∙ rw (m, c.base_area-area.ensures) (taken_cells (base_over (base_area (contents_of c.args.sheet))) S ∙ base_made (contents_of c.args.sheet)) in
     put_row c.offset-at.result S.count f.new.out c.args.cells.now (f.auto.out ∙ m) ∙ rw (e, c.offset-at.ensures.place, c.base_row.ensures)
-
-pub slice_bounds-fill_base-end : goal.slice_bounds-fill_base-end
-slice_bounds-fill_base-end c = prefix_long _ _ (omega (arith, c.requires.columns, long (goal.at.slice_bounds-fill_base-end c).Start))

@@ -1,6 +1,5 @@
 -- `write_body` meets its contract: the friction rows, then the base row and the total rows.
 use mathlib.Core.Path.{◌∙◌}
-use native.Mathlib.Omega.{arith}
 use Rattle.sheet_data.specs.Layout.{finishes, friction_row}
 use Rattle.sheet_data.specs.Contents.{contents_of}
 use Rattle.sheet_data.specs.Rows.{from}
@@ -9,15 +8,8 @@ use Rattle.drag_sheet.specs.Build.{row_of}
 use Rattle.drag_sheet.specs.Calls.{nozzle_rows, body_rows}
 use Rattle.drag_sheet.proofs.rows.write_body.Goals as goal
 
-pub write_nozzle_rows-requires : goal.write_nozzle_rows-requires
-write_nozzle_rows-requires c =
-    record { columns = c.requires.columns; parts = c.requires.parts; room = omega (arith, c.requires.room, c.write_frictions.auto.cells) }
-
 pub returns : goal.returns
 unfolding body_rows
 returns c =
     c.write_nozzle_rows.ensures
     ∙ rw (c.write_frictions.ensures, rows_append c.args.sheet.settings.count (row_of (contents_of c.args.sheet)) nozzle_rows (from (friction_row 0) finishes) c.args.cells.now)
-
-pub write_frictions-requires : goal.write_frictions-requires
-write_frictions-requires c = c.requires

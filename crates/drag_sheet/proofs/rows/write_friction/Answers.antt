@@ -2,13 +2,13 @@
 use mathlib.Core.Path.{◌≡◌, ap, ◌∙◌}
 use Prim.Native.Nat.{◌+◌}
 use native.Mathlib.Omega.{arith}
-use lib.ListN.{length, replicate, length-append}
+use lib.ListN.{length}
 use lib.Seq.{take_at}
 use Rattle.elementary.specs.Constants.{0·0}
 use Rattle.sheet_data.specs.Layout.{most_columns, finishes_few, friction_row}
 use Rattle.sheet_data.specs.Contents.{contents_of}
 use Rattle.sheet_data.specs.Tables.{tab_long}
-use Rattle.drag_sheet.proofs.Taken.{prefix_long, zeros}
+use Rattle.drag_sheet.proofs.Taken.{zeros}
 use Rattle.drag_sheet.proofs.MadeRows.{friction_made}
 use Rattle.drag_sheet.proofs.rows.write_friction.Goals as goal
 use Rattle.drag_sheet.proofs.rows.write_friction.Goals.{After-sum_parts}
@@ -21,10 +21,6 @@ pub sum_parts-requires : goal.sum_parts-requires
 sum_parts-requires c =
     record { columns = c.requires.0.columns; parts = c.requires.0.parts; zeros = zeros 0·0 c.args.sheet.settings.count most_columns c.requires.0.columns }
 
-pub write_row-requires : goal.write_row-requires
-write_row-requires c =
-    rw (take_at c.sum_parts.new.sum _ c.args.sheet.settings.count (sum_long (goal.at.write_row-requires c).After-sum_parts), sum_long (goal.at.write_row-requires c).After-sum_parts) (omega (arith, c.offset-at.ensures.inside, c.requires.0.room))
-
 pub returns : goal.returns
 returns c =
     let row : c.friction_row.result + c.args.finish ≡ friction_row c.args.finish = omega (arith, c.friction_row.ensures) in
@@ -33,18 +29,3 @@ returns c =
 
 pub overflow_add-friction_row : goal.overflow_add-friction_row
 overflow_add-friction_row c = omega (arith, finishes_few)
-
-pub offset-at-requires : goal.offset-at-requires
-offset-at-requires c = (omega (arith, c.friction_row.ensures, c.requires.1), c.requires.0.columns)
-
-pub slice_bounds-row-end : goal.slice_bounds-row-end
-slice_bounds-row-end c = c.requires.0.columns
-
-pub slice_bounds-sum_parts-end : goal.slice_bounds-sum_parts-end
-slice_bounds-sum_parts-end c = prefix_long _ (replicate most_columns 0·0) c.requires.0.columns
-
-pub slice_bounds-row-end-2 : goal.slice_bounds-row-end-2
-slice_bounds-row-end-2 c = let l = sum_long (goal.at.slice_bounds-row-end-2 c).After-sum_parts in simp length-append (omega arith)
-
-pub slice_bounds-write_row-end : goal.slice_bounds-write_row-end
-slice_bounds-write_row-end c = let l = sum_long (goal.at.slice_bounds-write_row-end c).After-sum_parts in prefix_long _ _ (simp length-append (omega arith))

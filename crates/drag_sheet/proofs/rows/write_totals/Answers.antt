@@ -5,10 +5,6 @@ use Rattle.drag_sheet.specs.Writing.{totalled}
 use Rattle.drag_sheet.proofs.MadeRows.{total_next}
 use Rattle.drag_sheet.proofs.rows.write_totals.Goals as goal
 
-pub write_total-requires : goal.write_total-requires
-write_total-requires c =
-    (omega (arith, c.loop-finish-test.true, c.finishes-finish-end.ensures.0), c.requires.0, omega (arith, c.requires.1, c.loop-finish.invariant.long))
-
 pub loop-finish-preserved : goal.loop-finish-preserved
 loop-finish-preserved c =
     let at = c.loop-finish in
@@ -21,6 +17,3 @@ returns c = rows_end c.loop-finish.invariant (omega (arith, c.loop-finish-test.f
 
 pub loop-finish-init : goal.loop-finish-init
 loop-finish-init c = rows_none _ _ _ _ _
-
-pub shape_of-cells : goal.shape_of-cells
-shape_of-cells c = c.loop-finish.invariant.long

@@ -5,7 +5,6 @@ use lib.Ieee.{of_bits, round}
 use Rattle.stoney.specs.declared.StoneyNose.{StoneyNose}
 use Rattle.stoney.specs.declared.PointRange.{PointRange}
 use Rattle.stoney.specs.Points.{points, all_points, range_of, part_of_all}
-use Rattle.stoney.proofs.Table.{some_points}
 use Rattle.stoney.proofs.StoneyNose.table.Goals as goal
 
 own : (nose : StoneyNose) (r : PointRange) → r ≡ range_of nose → take (r.first + r.count - r.first) (drop r.first all_points) ≡ points nose
@@ -14,7 +13,3 @@ own nose r is = let e : r.first + r.count - r.first ≡ r.count = omega arith in
 pub returns-clause-points : goal.returns-clause-points
 unfolding points all_points of_bits round
 returns-clause-points c = own c.args.self c.points-range.result c.points-range.ensures
-
-pub returns-clause-some : goal.returns-clause-some
-unfolding points all_points of_bits round
-returns-clause-some c = rw (own c.args.self c.points-range.result c.points-range.ensures) (some_points c.args.self)
