@@ -1,6 +1,6 @@
 -- The loop of `fill`: writing the coefficients from i on comes to writing all of them.
 use mathlib.Core.Path.{◌≡◌}
-use Prim.Native.Nat.{◌-◌, ◌≤◌}
+use Prim.Native.Nat.{◌≤◌}
 use lib.ListN.{length, drop}
 use lib.Seq.{sets}
 use Rattle.cobalnis.specs.Words.{spread}

@@ -1,7 +1,6 @@
 -- The loop of `floats_at`: after i turns the first i slots hold their numbers.
-use Prim.Native.Nat.{◌-◌, ◌*◌}
+use Prim.Native.Nat.{◌*◌}
 use lib.ListN.{drop}
-use Rattle.sheet_data.specs.Layout.{most_columns}
 use Rattle.sheet_data.specs.Tables.{Filling}
 use Rattle.cobalnis.specs.Words.{float}
 use Rattle.cobalnis.proofs.words.floats_at.Given as goal

@@ -1,7 +1,6 @@
 -- The loop of `parts_of`: after i turns the first i slots hold their parts.
-use Prim.Native.Nat.{◌-◌, ◌*◌}
+use Prim.Native.Nat.{◌*◌}
 use lib.ListN.{drop}
-use Rattle.sheet_data.specs.Layout.{most_parts}
 use Rattle.sheet_data.specs.Tables.{Filling}
 use Rattle.cobalnis.specs.Words.{first_part, part_word_count, part_of}
 use Rattle.cobalnis.proofs.words.parts_of.Given as goal

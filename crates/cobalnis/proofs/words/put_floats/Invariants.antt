@@ -1,6 +1,6 @@
 -- The loop of `put_floats`: writing the numbers from i on comes to writing all of them.
 use mathlib.Core.Path.{◌≡◌}
-use Prim.Native.Nat.{◌+◌, ◌-◌, ◌≤◌}
+use Prim.Native.Nat.{◌+◌, ◌≤◌}
 use lib.ListN.{drop}
 use lib.Seq.{sets}
 use Rattle.sheet_data.specs.Layout.{most_columns}
