@@ -103,6 +103,7 @@ fn coefficient_bits(curve: PressureDragCurve, mach: f64) -> u64
     }
 }
 
+#[tactic(auto, using(crate::proofs::Turns::coefficient_more), unfolding(crate::specs::Words::spread))]
 fn fill(curve: PressureDragCurve, machs: &[f64], out: &mut [u64])
     requires { length machs.now ≤ length out.old }
     ensures { out.new ≡ sets out.old 0 (spread (coefficient_word curve) machs.now) }
