@@ -31,6 +31,7 @@ use Rattle.cobalnis.specs.Words.{part_word_count, first_part, sheet_word_count, 
 
 -- ---- reading
 
+-- a float for each word from a place on
 pub every_float : (n : ℕ) (ws : List ℕ) (at : ℕ) → every float 1 n (drop at ws) ≡ tab n (λ k. bits (get_or ws (at + k) 0))
 unfolding every tab
 every_float zero ws at = refl
@@ -117,34 +118,29 @@ spread_append words [] ys = refl
 spread_append words (x ∷ xs) ys = ap (λ (us : List ℕ). words x ++ us) (spread_append words xs ys) ∙ sym (append_assoc (words x) (spread words xs) (spread words ys))
 
 -- the words of one thing more
-spread_more : {A : Type 0} (words : A → List ℕ) (size : ℕ) → ((x : A) → length (words x) ≡ size) → (xs : List A) (d : A) (i : ℕ) (ws : List ℕ) (at : ℕ) → i < length xs
-    → sets ws at (spread words (take (i + 1) xs)) ≡ sets (sets ws at (spread words (take i xs))) (at + i * size) (words (get_or xs i d))
+spread_more : {A : Type 0} (words : A → List ℕ) (size : ℕ) → ((x : A) → length (words x) ≡ size) → (xs : List A) (d : A) (i : ℕ) (ws : List ℕ) (at k : ℕ) → at + i * size ≡ k → i < length xs
+    → sets ws at (spread words (take (i + 1) xs)) ≡ sets (sets ws at (spread words (take i xs))) k (words (get_or xs i d))
 unfolding spread
-spread_more {A = A} words size each xs d i ws at h =
+spread_more {A = A} words size each xs d i ws at k e h =
     let vs = spread words (take i xs) in
     let row = words (get_or xs i d) in
-    let n = spread_long words size each (take i xs) in
-    let k : length vs ≡ i * size = n ∙ ap (λ (m : ℕ). m * size) (length-take-le i xs (omega arith)) in
+    let n = spread_long words size each (take i xs) ∙ ap (λ (m : ℕ). m * size) (length-take-le i xs (omega arith)) in
     ap (λ (ys : List A). sets ws at (spread words ys)) (take_more xs i d h)
     ∙ ap (sets ws at) (spread_append words (take i xs) (get_or xs i d ∷ []) ∙ ap (λ (us : List ℕ). vs ++ us) (append-nil row))
     ∙ sets_append vs row ws at
-    ∙ ap (λ (m : ℕ). sets (sets ws at vs) (at + m) row) k
+    ∙ ap (λ (m : ℕ). sets (sets ws at vs) m row) (ap (λ (m : ℕ). at + m) n ∙ e)
 
 pub float_more : (ws : List ℕ) (at i : ℕ) (xs : List Float) → i < length xs
     → sets ws at (spread float_words (take (i + 1) xs)) ≡ set (sets ws at (spread float_words (take i xs))) (at + i) (to_bits binary64 (get_or xs i nan))
-float_more ws at i xs h = let e : at + i * 1 ≡ at + i = omega arith in spread_more float_words 1 (λ x. refl) xs nan i ws at h ∙ ap (λ (k : ℕ). set (sets ws at (spread float_words (take i xs))) k (to_bits binary64 (get_or xs i nan))) e
+float_more ws at i xs h = spread_more float_words 1 (λ x. refl) xs nan i ws at (at + i) (omega arith) h
 
 pub coefficient_more : (curve : PressureDragCurve) (ws : List ℕ) (i : ℕ) (Ms : List Float) → i < length Ms
     → sets ws 0 (spread (coefficient_word curve) (take (i + 1) Ms)) ≡ set (sets ws 0 (spread (coefficient_word curve) (take i Ms))) i (coefficient_bits curve (get_or Ms i nan))
-coefficient_more curve ws i Ms h =
-    let e : 0 + i * 1 ≡ i = omega arith in
-    spread_more (coefficient_word curve) 1 (λ M. refl) Ms nan i ws 0 h ∙ ap (λ (k : ℕ). set (sets ws 0 (spread (coefficient_word curve) (take i Ms))) k (coefficient_bits curve (get_or Ms i nan))) e
+coefficient_more curve ws i Ms h = spread_more (coefficient_word curve) 1 (λ M. refl) Ms nan i ws 0 i (omega arith) h
 
 pub part_more : (ws : List ℕ) (at i : ℕ) (ps : List Part) → i < length ps
     → sets ws at (spread part_words (take (i + 1) ps)) ≡ sets (sets ws at (spread part_words (take i ps))) (at + part_word_count * i) (part_words (get_or ps i no_part))
-part_more ws at i ps h =
-    let e : at + i * part_word_count ≡ at + part_word_count * i = omega arith in
-    spread_more part_words part_word_count (λ p. refl) ps no_part i ws at h ∙ ap (λ (k : ℕ). sets (sets ws at (spread part_words (take i ps))) k (part_words (get_or ps i no_part))) e
+part_more ws at i ps h = spread_more part_words part_word_count (λ p. refl) ps no_part i ws at (at + part_word_count * i) (omega arith) h
 
 -- as many words as there are, from the first on, are all of them
 pub sets_all : (vs ws : List ℕ) → length vs ≡ length ws → sets ws 0 vs ≡ vs

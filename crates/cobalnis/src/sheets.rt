@@ -98,10 +98,7 @@ fn called(
 fn part_known(part: &[u64; PART_WORDS], words: &[u64; SHEET_WORDS]) -> bool
     ensures { result ≡ part_known part.now words.now }
 {
-    if 5 < part[0] {
-        return false;
-    }
-    words::shapes_known(words)
+    part[0] <= 5 && words::shapes_known(words)
 }
 
 // Opens a sheet with the settings of its words; its design is emptied.
