@@ -112,6 +112,9 @@ spread_long words size each (x ∷ xs) =
     let k = each x in
     omega (arith, a, b, h, k)
 
+pub floats_long : (xs : List Float) → length (spread float_words xs) ≡ length xs
+floats_long xs = let e = spread_long float_words 1 (λ x. refl) xs in omega (arith, e)
+
 spread_append : {A : Type 0} (words : A → List ℕ) (xs ys : List A) → spread words (xs ++ ys) ≡ spread words xs ++ spread words ys
 unfolding spread
 spread_append words [] ys = refl

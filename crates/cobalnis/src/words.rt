@@ -164,6 +164,7 @@ fn put_floats(floats: [f64; COLUMNS], words: &mut [u64; SHEET_WORDS], start: usi
     }
 }
 
+#[tactic(auto, using(sheet_text::proofs::Puts::put_there))]
 fn put_part(part: Part, words: &mut [u64; SHEET_WORDS], at: usize)
     requires { at + part_word_count ≤ sheet_word_count }
     ensures { words.new ≡ sets words.old at (part_words part) }
@@ -181,6 +182,7 @@ fn put_parts(parts: [Part; PARTS], words: &mut [u64; SHEET_WORDS])
 }
 
 // The settings' words, which come first.
+#[tactic(auto, using(sheet_text::proofs::Puts::sets_append, crate::proofs::Turns::floats_long))]
 pub fn put_settings(settings: Settings, words: &mut [u64; SHEET_WORDS])
     ensures { words.new ≡ sets words.old 0 (settings_words settings) }
 {
