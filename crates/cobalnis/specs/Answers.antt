@@ -26,10 +26,12 @@ use Rattle.nose_drag.specs.Below.{subsonic_pressure_drag_coefficient}
 use Rattle.nose_drag.specs.Methods.{ogive_pressure_drag_factor, fineness_scaled_pressure_drag, ellipsoid_subsonic_pressure_drag}
 use Rattle.sheet_data.specs.declared.Sheet.{Sheet}
 use Rattle.sheet_data.specs.Layout.{most_parts}
-use Rattle.drag_sheet.specs.Calls.{Answer, Call, Called, Opened}
+use Rattle.drag_sheet.specs.Calls.{Answer, Call, replace, insert, remove, set_column, ignite, burnout, Called, Opened}
 use Rattle.cards.specs.Fields.{Read}
 use Rattle.sheet_data.specs.declared.Part.{Part}
 use Rattle.sheet_data.specs.declared.Settings.{Settings}
+use Rattle.cobalnis.specs.declared.sheets.Asked.{Asked}
+use Rattle.cobalnis.specs.declared.sheets.Asked.TheVariants.{Insert, Replace, Remove, SetColumn, Ignite, Burnout}
 use Rattle.cobalnis.specs.Words.{first_part, spread, part_words, settings_of, settings_words, sheet_of, sheet_words, shapes_known}
 
 -- ---- the status and the bits of an answer
@@ -191,6 +193,15 @@ CurveAnswered false curve machs xs before r ys said = CurveDone curve machs xs r
 CurveAnswered true curve machs xs before r ys said = (r ≡ no_such) × (ys ≡ xs) × (said ≡ before)
 
 -- ---- the calls on a sheet of words
+
+-- the call of what is asked
+abbrev pub call_of : Asked → Call
+call_of (Insert place p) = insert place p
+call_of (Replace place p) = replace place p
+call_of (Remove place) = remove place
+call_of (SetColumn k M R) = set_column k M R
+call_of (Ignite n) = ignite n
+call_of Burnout = burnout
 
 -- accepted, the words are those of the sheet handed back; refused, they are as they were, and the value refused is handed out
 abbrev pub Shown : Check → Sheet → List ℕ → ℕ → List ℕ → ℕ → Type 0

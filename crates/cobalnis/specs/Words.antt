@@ -5,6 +5,7 @@
 use Rattle.std.specs.Prelude.{Bool, true, false, cond, List, [], ◌∷◌, ◌++◌, ℕ, zero, suc, ◌+◌, ◌*◌, get_or, drop, ltb, eqb, Float, Some, Option, None}
 use Rattle.std.specs.Float.Ieee.{to_bits}
 use Rattle.std.specs.Float.{binary64}
+use Rattle.std.specs.Simd.{first_chunks}
 use Rattle.elementary.specs.Arithmetic.{bits}
 use Rattle.shapes.specs.Numbers.{number_of_shape, shape_of, parameter_of}
 use Rattle.sheet_data.specs.declared.Settings.{Settings}
@@ -62,6 +63,10 @@ part_of ws = record {
   wetted_ratio = bits (get_or ws 5 0);
   roughness = own_of (get_or ws 6 0) (bits (get_or ws 7 0));
 }
+
+-- a sheet's words of each part
+unfoldable pub part_chunks : List ℕ → List (List ℕ)
+part_chunks ws = first_chunks part_word_count most_parts (drop first_part ws)
 
 abbrev pub settings_of : List ℕ → Settings
 settings_of ws = record {

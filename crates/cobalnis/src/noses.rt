@@ -9,7 +9,7 @@ ghost use Rattle.cobalnis.specs.Words.{spread};
 ghost use Rattle.cobalnis.specs.Answers.{no_such, is_nose, point_status, point_words, lookup_words, WalkDone, curve_from, coefficient_bits, coefficient_word, about, ReadAt, CurveAnswered};
 
 use crate::answers::{NO_SUCH, refuse, status_of};
-use aero_error::{AeroError, Rule};
+use aero_error::{AeroError, Rule, unless};
 use nose_drag::PressureDragCurve;
 use shapes::NoseShape;
 use stoney::StoneyNose;
@@ -103,6 +103,7 @@ fn coefficient_bits(curve: PressureDragCurve, mach: f64) -> u64
     }
 }
 
+#[tactic(auto, using(crate::proofs::Turns::coefficient_more), unfolding(crate::specs::Words::spread))]
 fn fill(curve: PressureDragCurve, machs: &[f64], out: &mut [u64])
     requires { length machs.now ≤ length out.old }
     ensures { out.new ≡ sets out.old 0 (spread (coefficient_word curve) machs.now) }
@@ -122,15 +123,19 @@ fn about(value: f64, curve: PressureDragCurve) -> [u64; 3]
     ]
 }
 
+// Room for the words, then every Mach number by itself.
+fn check_given(machs: &[f64], cells: usize) -> Result<(), AeroError>
+    ensures { result ≡ (unless (ltb cells (length machs.now)) TooFewCells then machs_test machs.now) }
+{
+    unless(cells < machs.len(), Rule::TooFewCells)?;
+    drag::check_machs(machs)
+}
+
 // A built curve at these Machs.
 fn read_curve(curve: PressureDragCurve, machs: &[f64], out: &mut [u64], said: &mut [u64; 3]) -> u32
     ensures { ReadAt (unless (ltb (length out.old) (length machs.now)) TooFewCells then machs_test machs.now) curve machs.now out.old result out.new said.new }
 {
-    if out.len() < machs.len() {
-        *said = about(0.0, curve);
-        return status_of(AeroError::Broken(Rule::TooFewCells));
-    }
-    match drag::check_machs(machs) {
+    match check_given(machs, out.len()) {
         Err(e) => {
             *said = about(e.value(), curve);
             status_of(e)

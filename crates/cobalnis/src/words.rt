@@ -4,11 +4,12 @@ ghost use Rattle.std.specs.Prelude.{◌≡◌, ◌+◌, ◌≤◌, length, drop}
 ghost use Rattle.std.proofs.lemmas.List.Edits.{sets};
 ghost use Rattle.elementary.specs.Arithmetic.{bits};
 ghost use Rattle.sheet_data.specs.Layout.{most_parts, most_columns};
-ghost use Rattle.cobalnis.specs.Words.{part_word_count, first_part, sheet_word_count, every, spread, float, float_words, own_of, own_flag, own_bits, part_of, part_words, settings_of, settings_words, sheet_of, sheet_words, shapes_known};
+ghost use Rattle.cobalnis.specs.Words.{part_word_count, first_part, sheet_word_count, every, spread, float, float_words, own_of, own_flag, own_bits, part_of, part_chunks, part_words, settings_of, settings_words, sheet_of, sheet_words, shapes_known};
 
 use shapes::NoseShape;
 use sheet_data::layout::{COLUMNS, PARTS};
 use sheet_data::{Design, Part, Settings, Sheet};
+use std::array;
 
 // Where the words lie: the Machs, the Reynolds numbers, the nozzle diameter, the number of parts, the parts.
 pub const PART_WORDS: usize = 8;
@@ -33,31 +34,30 @@ pub const SHEET_WORDS: usize = FIRST_PART + PARTS * PART_WORDS;
 fn own_of(flag: u64, word: u64) -> Option<f64>
     ensures { result ≡ own_of flag (bits word) }
 {
-    if flag == 0 {
-        return None;
-    }
-    Some(elementary::from_bits(word))
-}
-
-// The part whose words begin at a place.
-fn part_at(words: &[u64], at: usize) -> Part
-    requires { at + part_word_count ≤ length words.now }
-    ensures { result ≡ part_of (drop at words.now) }
-{
-    Part {
-        shape: NoseShape::of_number(words[at], elementary::from_bits(words[at + 1])),
-        length: elementary::from_bits(words[at + 2]),
-        aft_diameter: elementary::from_bits(words[at + 3]),
-        joint_angle: elementary::from_bits(words[at + 4]),
-        wetted_ratio: elementary::from_bits(words[at + 5]),
-        roughness: own_of(words[at + 6], words[at + 7]),
-    }
+    (flag != 0).then(|| elementary::from_bits(word))
 }
 
 pub fn part_of(words: &[u64; PART_WORDS]) -> Part
     ensures { result ≡ part_of words.now }
 {
-    part_at(words, 0)
+    let [
+        shape,
+        parameter,
+        length,
+        aft_diameter,
+        joint_angle,
+        wetted_ratio,
+        own,
+        roughness,
+    ] = *words;
+    Part {
+        shape: NoseShape::of_number(shape, elementary::from_bits(parameter)),
+        length: elementary::from_bits(length),
+        aft_diameter: elementary::from_bits(aft_diameter),
+        joint_angle: elementary::from_bits(joint_angle),
+        wetted_ratio: elementary::from_bits(wetted_ratio),
+        roughness: own_of(own, roughness),
+    }
 }
 
 // A float for each column, from a sheet's words.
@@ -65,22 +65,24 @@ fn floats_at(words: &[u64; SHEET_WORDS], at: usize) -> [f64; COLUMNS]
     requires { at + most_columns ≤ sheet_word_count }
     ensures { result ≡ every float 1 most_columns (drop at words.now) }
 {
-    let mut out = [0.0; COLUMNS];
-    for i in 0..COLUMNS {
-        out[i] = elementary::from_bits(words[at + i]);
-    }
-    out
+    array::from_fn(|i| elementary::from_bits(words[at + i]))
+}
+
+// The words of each part.
+#[tactic(auto, using(crate::proofs::Turns::chunks_all))]
+fn part_chunks(words: &[u64; SHEET_WORDS]) -> &[[u64; PART_WORDS]]
+    ensures chunks { result.now ≡ part_chunks words.now }
+    ensures count { length result.now ≡ most_parts }
+{
+    let (chunks, _) = words[FIRST_PART..].as_chunks();
+    chunks
 }
 
 fn parts_of(words: &[u64; SHEET_WORDS]) -> [Part; PARTS]
     ensures { result ≡ every part_of part_word_count most_parts (drop first_part words.now) }
 {
-    let empty = Part::empty();
-    let mut out = [empty; PARTS];
-    for i in 0..PARTS {
-        out[i] = part_at(words, FIRST_PART + PART_WORDS * i);
-    }
-    out
+    let chunks = part_chunks(words);
+    array::from_fn(|i| part_of(&chunks[i]))
 }
 
 pub fn settings_of(words: &[u64; SHEET_WORDS]) -> Settings
@@ -117,12 +119,7 @@ pub fn sheet_of(words: &[u64; SHEET_WORDS]) -> Sheet
 pub fn shapes_known(words: &[u64; SHEET_WORDS]) -> bool
     ensures { result ≡ shapes_known most_parts (drop first_part words.now) }
 {
-    for i in 0..PARTS {
-        if 5 < words[FIRST_PART + PART_WORDS * i] {
-            return false;
-        }
-    }
-    true
+    part_chunks(words).iter().all(|part| part[0] <= 5)
 }
 
 // ---- to words
@@ -131,19 +128,13 @@ pub fn shapes_known(words: &[u64; SHEET_WORDS]) -> bool
 fn own_flag(roughness: Option<f64>) -> u64
     ensures { result ≡ own_flag roughness }
 {
-    match roughness {
-        None => 0,
-        Some(_) => 1,
-    }
+    u64::from(roughness.is_some())
 }
 
 fn own_bits(roughness: Option<f64>) -> u64
     ensures { result ≡ own_bits roughness }
 {
-    match roughness {
-        None => 0,
-        Some(x) => elementary::to_bits(x),
-    }
+    roughness.map_or(0, elementary::to_bits)
 }
 
 pub fn part_words(part: Part) -> [u64; PART_WORDS]
@@ -163,15 +154,17 @@ pub fn part_words(part: Part) -> [u64; PART_WORDS]
     ]
 }
 
+#[tactic(auto, using(crate::proofs::Turns::float_more), unfolding(crate::specs::Words::spread))]
 fn put_floats(floats: [f64; COLUMNS], words: &mut [u64; SHEET_WORDS], start: usize)
     requires { start + most_columns ≤ sheet_word_count }
     ensures { words.new ≡ sets words.old start (spread float_words floats) }
 {
-    for i in 0..COLUMNS {
-        words[start + i] = elementary::to_bits(floats[i]);
+    for (i, float) in floats.iter().enumerate() {
+        words[start + i] = elementary::to_bits(*float);
     }
 }
 
+#[tactic(auto, using(sheet_text::proofs::Puts::put_there))]
 fn put_part(part: Part, words: &mut [u64; SHEET_WORDS], at: usize)
     requires { at + part_word_count ≤ sheet_word_count }
     ensures { words.new ≡ sets words.old at (part_words part) }
@@ -179,16 +172,17 @@ fn put_part(part: Part, words: &mut [u64; SHEET_WORDS], at: usize)
     words[at..at + PART_WORDS].copy_from_slice(&part_words(part));
 }
 
+#[tactic(auto, using(crate::proofs::Turns::part_more), unfolding(crate::specs::Words::spread))]
 fn put_parts(parts: [Part; PARTS], words: &mut [u64; SHEET_WORDS])
     ensures { words.new ≡ sets words.old first_part (spread part_words parts) }
 {
-    for i in 0..PARTS {
-        let part = parts[i];
-        put_part(part, words, FIRST_PART + PART_WORDS * i);
+    for (i, part) in parts.iter().enumerate() {
+        put_part(*part, words, FIRST_PART + PART_WORDS * i);
     }
 }
 
 // The settings' words, which come first.
+#[tactic(auto, using(sheet_text::proofs::Puts::sets_append, crate::proofs::Turns::floats_long))]
 pub fn put_settings(settings: Settings, words: &mut [u64; SHEET_WORDS])
     ensures { words.new ≡ sets words.old 0 (settings_words settings) }
 {

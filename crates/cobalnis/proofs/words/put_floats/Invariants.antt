@@ -1,11 +1,8 @@
--- The loop of `put_floats`: writing the numbers from i on comes to writing all of them.
-use mathlib.Core.Path.{◌≡◌}
-use Prim.Native.Nat.{◌+◌, ◌-◌, ◌≤◌}
-use lib.ListN.{drop}
-use lib.Seq.{sets}
-use Rattle.sheet_data.specs.Layout.{most_columns}
+-- The loop of `put_floats`: the first i numbers' words are written.
+use Rattle.std.proofs.Common.{◌≡◌, take}
+use Rattle.std.proofs.lemmas.List.Edits.{sets}
 use Rattle.cobalnis.specs.Words.{spread, float_words}
 use Rattle.cobalnis.proofs.words.put_floats.Given as goal
 
 abbrev pub invariant-loop-i : goal.invariant-loop-i
-invariant-loop-i l = (l.i ≤ most_columns) × (sets l.initial.words l.start (spread float_words l.floats) ≡ sets l.words (l.start + l.i) (spread float_words (drop l.i l.floats)))
+invariant-loop-i l = l.words ≡ sets l.initial.words l.start (spread float_words (take l.i l.float-items))
