@@ -5,7 +5,7 @@ ghost use Rattle.nose_drag.specs.Curves.{takes_cone_formula, cone_curve, interpo
 use crate::cone::ogive_pressure_drag_factor;
 use crate::curve::{DEPTH, PressureDragCurve, Reference, Transonic};
 use crate::scaling::fineness_exponent;
-use aero_error::{AeroError, Quantity, Rule, check_dimension, require};
+use aero_error::{AeroError, Quantity, Rule, check_dimension, require, unless};
 use drag::joint_pressure_drag_coefficient;
 use elementary::{LN_2, is_between, is_finite};
 use shapes::NoseShape;
@@ -20,65 +20,120 @@ struct Bracket {
     high: f64,
 }
 
-impl PressureDragCurve {
+// A nose or shoulder before its shape: the joint's value at rest, and the fineness ratio.
+#[derive(Clone, Copy)]
+struct Nose {
+    rest: f64,
+    fineness_ratio: f64,
+}
+
+impl Nose {
     // A cone times an ogive's factor: the closed form from fineness 1; below it eq. B.9's form between the flat face and the whole curve at fineness 1.
     #[tactic(auto, unfolding(crate::specs::Curves::cone_curve))]
-    fn cone(rest: f64, fineness_ratio: f64, factor: f64) -> PressureDragCurve
-        ensures { result ≡ cone_curve rest fineness_ratio factor }
+    fn cone(self, factor: f64) -> PressureDragCurve
+        ensures { result ≡ cone_curve self.rest self.fineness_ratio factor }
     {
-        if fineness_ratio >= 1.0 {
-            let method = Transonic::cone(fineness_ratio, factor);
-            PressureDragCurve::from_transonic(rest, method, 1.0, DEPTH)
+        if self.fineness_ratio >= 1.0 {
+            let method = Transonic::cone(self.fineness_ratio, factor);
+            PressureDragCurve::from_transonic(self.rest, method, 1.0, DEPTH)
         } else {
             let method = Transonic::Scaled {
                 lower: Reference::Blunt,
                 upper: Reference::Cone {
                     fineness_ratio: 1.0,
                     factor,
-                    rest,
+                    rest: self.rest,
                 },
                 weight: 1.0,
-                exponent: elementary::ln(fineness_ratio + 1.0) / LN_2,
+                exponent: elementary::ln(self.fineness_ratio + 1.0) / LN_2,
             };
-            PressureDragCurve::from_transonic(rest, method, 0.0, DEPTH)
+            PressureDragCurve::from_transonic(self.rest, method, 0.0, DEPTH)
         }
     }
 
     // Between two references, by the weight of the upper one, scaled to the fineness ratio.
     #[tactic(auto, unfolding(crate::specs::Curves::interpolated))]
-    fn interpolated(
-        rest: f64,
-        fineness_ratio: f64,
-        lower: Reference,
-        upper: Reference,
-        weight: f64,
-    ) -> PressureDragCurve
-        ensures { result ≡ interpolated_of rest fineness_ratio lower upper weight }
+    fn interpolated(self, lower: Reference, upper: Reference, weight: f64) -> PressureDragCurve
+        ensures { result ≡ interpolated_of self.rest self.fineness_ratio lower upper weight }
     {
         let method = Transonic::Scaled {
             lower,
             upper,
             weight,
-            exponent: fineness_exponent(fineness_ratio),
+            exponent: fineness_exponent(self.fineness_ratio),
         };
-        PressureDragCurve::from_transonic(rest, method, SUBSONIC_MACH_LIMIT, DEPTH)
+        PressureDragCurve::from_transonic(self.rest, method, SUBSONIC_MACH_LIMIT, DEPTH)
     }
 
-    // The curve of a nose or shoulder: its shape, its fineness ratio l/(d_aft - d_fore) and its joint angle at the aft end.
-    #[tactic(auto, unfolding(crate::specs::Curves::new_curve, crate::specs::Curves::recorded), using(aero_error::proofs::HandedOn::handed_on))]
-    pub fn new(
-        shape: NoseShape,
-        fineness_ratio: f64,
-        joint_angle_rad: f64,
-    ) -> Result<PressureDragCurve, AeroError>
-        ensures { result ≡ new_curve shape fineness_ratio joint_angle_rad }
+    // Interpolated in the parameter between the two references of a bracket.
+    #[tactic(auto, unfolding(crate::specs::Curves::between_references, crate::specs::Curves::weight_of))]
+    fn between(self, bracket: Bracket, parameter: f64) -> PressureDragCurve
+        ensures { result ≡ between_references self.rest self.fineness_ratio bracket parameter }
     {
-        let mut curve = build(shape, fineness_ratio, joint_angle_rad)?;
-        if fineness_ratio > 0.0 {
-            curve.shape = Some(shape);
-            curve.fineness_ratio = fineness_ratio;
+        let weight = (parameter - bracket.low) / (bracket.high - bracket.low);
+        self.interpolated(bracket.lower, bracket.upper, weight)
+    }
+
+    // The cone times eq. B.8's factor, κ being one over the radius ratio.
+    #[tactic(auto, unfolding(crate::specs::Curves::ogive))]
+    fn ogive(self, radius_ratio: f64) -> Result<PressureDragCurve, AeroError>
+        ensures { result ≡ ogive_of self.rest self.fineness_ratio radius_ratio }
+    {
+        let right = is_finite(radius_ratio) && radius_ratio >= 1.0;
+        unless(!right, Rule::OgiveRadiusRatio)?;
+        let factor = ogive_pressure_drag_factor(1.0 / radius_ratio)?;
+        Ok(self.cone(factor))
+    }
+
+    // A shape between two references, for a parameter in [0, 1].
+    fn series(
+        self,
+        bracket: Bracket,
+        what: Quantity,
+        parameter: f64,
+    ) -> Result<PressureDragCurve, AeroError>
+        ensures { result ≡ series_of self.rest self.fineness_ratio bracket what parameter }
+    {
+        require(is_between(0.0, parameter, 1.0), what, parameter)?;
+        Ok(self.between(bracket, parameter))
+    }
+
+    // Between Stoney's von Kármán and LV-Haack, for a parameter from 0 to 1/3.
+    #[tactic(auto, unfolding(crate::specs::Curves::haack))]
+    fn haack(self, c: f64) -> Result<PressureDragCurve, AeroError>
+        ensures { result ≡ haack_of self.rest self.fineness_ratio c }
+    {
+        unless(c > 1.0 / 3.0, Rule::HaackAboveThird)?;
+        require(is_between(0.0, c, 1.0 / 3.0), Quantity::HaackParameter, c)?;
+        let lower = Reference::Stoney(StoneyNose::VonKarman);
+        let upper = Reference::Stoney(StoneyNose::LvHaack);
+        Ok(self.interpolated(lower, upper, 3.0 * c))
+    }
+
+    // The curve of a shape.
+    #[tactic(auto, unfolding(crate::specs::Curves::power, crate::specs::Curves::parabolic))]
+    fn shaped(self, shape: NoseShape) -> Result<PressureDragCurve, AeroError>
+        ensures { result ≡ shaped_of shape self.fineness_ratio self.rest }
+    {
+        match shape {
+            NoseShape::Conical => Ok(self.cone(1.0)),
+            NoseShape::Ogive { radius_ratio } => self.ogive(radius_ratio),
+            NoseShape::Elliptical => {
+                let method = Transonic::Ellipsoid {
+                    fineness_ratio: self.fineness_ratio,
+                    rest: self.rest,
+                };
+                Ok(PressureDragCurve::from_transonic(self.rest, method, 0.0, DEPTH))
+            }
+            NoseShape::PowerSeries { exponent } => {
+                self.series(power_bracket(exponent), Quantity::PowerExponent, exponent)
+            }
+            NoseShape::ParabolicSeries { parameter } => {
+                let bracket = parabolic_bracket(parameter);
+                self.series(bracket, Quantity::ParabolicParameter, parameter)
+            }
+            NoseShape::Haack { parameter } => self.haack(parameter),
         }
-        Ok(curve)
     }
 }
 
@@ -161,96 +216,22 @@ fn parabolic_bracket(k: f64) -> Bracket
     }
 }
 
-// Interpolated in the parameter between the two references of a bracket.
-#[tactic(auto, unfolding(crate::specs::Curves::between_references, crate::specs::Curves::weight_of))]
-fn between_references(
-    rest: f64,
-    fineness_ratio: f64,
-    bracket: Bracket,
-    parameter: f64,
-) -> PressureDragCurve
-    ensures { result ≡ between_references rest fineness_ratio bracket parameter }
-{
-    let weight = (parameter - bracket.low) / (bracket.high - bracket.low);
-    PressureDragCurve::interpolated(rest, fineness_ratio, bracket.lower, bracket.upper, weight)
-}
-
-// The cone times eq. B.8's factor, κ being one over the radius ratio.
-#[tactic(auto, unfolding(crate::specs::Curves::ogive))]
-fn ogive(rest: f64, fineness_ratio: f64, radius_ratio: f64) -> Result<PressureDragCurve, AeroError>
-    ensures { result ≡ ogive_of rest fineness_ratio radius_ratio }
-{
-    if is_finite(radius_ratio) && radius_ratio >= 1.0 {
-        let factor = ogive_pressure_drag_factor(1.0 / radius_ratio)?;
-        Ok(PressureDragCurve::cone(rest, fineness_ratio, factor))
-    } else {
-        Err(AeroError::Broken(Rule::OgiveRadiusRatio))
-    }
-}
-
-// A shape between two references, for a parameter in [0, 1].
-fn series(
-    rest: f64,
-    fineness_ratio: f64,
-    bracket: Bracket,
-    what: Quantity,
-    parameter: f64,
-) -> Result<PressureDragCurve, AeroError>
-    ensures { result ≡ series_of rest fineness_ratio bracket what parameter }
-{
-    require(is_between(0.0, parameter, 1.0), what, parameter)?;
-    Ok(between_references(rest, fineness_ratio, bracket, parameter))
-}
-
-#[tactic(auto, unfolding(crate::specs::Curves::haack))]
-fn haack(rest: f64, fineness_ratio: f64, c: f64) -> Result<PressureDragCurve, AeroError>
-    ensures { result ≡ haack_of rest fineness_ratio c }
-{
-    if c > 1.0 / 3.0 {
-        return Err(AeroError::Broken(Rule::HaackAboveThird));
-    }
-    require(is_between(0.0, c, 1.0 / 3.0), Quantity::HaackParameter, c)?;
-    let lower = Reference::Stoney(StoneyNose::VonKarman);
-    let upper = Reference::Stoney(StoneyNose::LvHaack);
-    Ok(PressureDragCurve::interpolated(rest, fineness_ratio, lower, upper, 3.0 * c))
-}
-
-// The curve of a shape of some length, from its value at rest.
-#[tactic(auto, unfolding(crate::specs::Curves::power, crate::specs::Curves::parabolic))]
-fn shaped(shape: NoseShape, fineness_ratio: f64, rest: f64) -> Result<PressureDragCurve, AeroError>
-    ensures { result ≡ shaped_of shape fineness_ratio rest }
-{
-    match shape {
-        NoseShape::Conical => Ok(PressureDragCurve::cone(rest, fineness_ratio, 1.0)),
-        NoseShape::Ogive { radius_ratio } => ogive(rest, fineness_ratio, radius_ratio),
-        NoseShape::Elliptical => {
-            let method = Transonic::Ellipsoid {
-                fineness_ratio,
-                rest,
-            };
-            Ok(PressureDragCurve::from_transonic(rest, method, 0.0, DEPTH))
+impl PressureDragCurve {
+    // The curve of a nose or shoulder: its shape, its fineness ratio l/(d_aft - d_fore) and its joint angle at the aft end.
+    #[tactic(auto, unfolding(crate::specs::Curves::new_curve, crate::specs::Curves::recorded), using(aero_error::proofs::HandedOn::handed_on))]
+    pub fn new(
+        shape: NoseShape,
+        fineness_ratio: f64,
+        joint_angle_rad: f64,
+    ) -> Result<PressureDragCurve, AeroError>
+        ensures { result ≡ new_curve shape fineness_ratio joint_angle_rad }
+    {
+        let mut curve = build(shape, fineness_ratio, joint_angle_rad)?;
+        if fineness_ratio > 0.0 {
+            curve.shape = Some(shape);
+            curve.fineness_ratio = fineness_ratio;
         }
-        NoseShape::PowerSeries { exponent } => {
-            let bracket = power_bracket(exponent);
-            series(
-                rest,
-                fineness_ratio,
-                bracket,
-                Quantity::PowerExponent,
-                exponent,
-            )
-        }
-        NoseShape::ParabolicSeries { parameter } => {
-            let bracket = parabolic_bracket(parameter);
-            series(
-                rest,
-                fineness_ratio,
-                bracket,
-                Quantity::ParabolicParameter,
-                parameter,
-            )
-        }
-        NoseShape::Haack { parameter } => haack(rest, fineness_ratio, parameter),
+        Ok(curve)
     }
 }
 
@@ -268,6 +249,10 @@ fn build(
     if fineness_ratio == 0.0 {
         Ok(PressureDragCurve::step())
     } else {
-        shaped(shape, fineness_ratio, rest)
+        let nose = Nose {
+            rest,
+            fineness_ratio,
+        };
+        nose.shaped(shape)
     }
 }

@@ -43,23 +43,23 @@ pub(crate) fn blunt(mach: f64) -> ValueAndSlope
     }
 }
 
-// The cubic from (x0, y0) with slope m0 to (x1, y1) with slope m1, at x.
+// The cubic from `start` at x0 to `end` at x1, each a value and a slope there, at x.
 #[tactic(auto, unfolding(crate::specs::Forms::hermite))]
-fn hermite(x0: f64, y0: f64, m0: f64, x1: f64, y1: f64, m1: f64, x: f64) -> ValueAndSlope
-    ensures { result ≡ hermite_of x0 y0 m0 x1 y1 m1 x }
+fn hermite(x0: f64, start: ValueAndSlope, x1: f64, end: ValueAndSlope, x: f64) -> ValueAndSlope
+    ensures { result ≡ hermite_of x0 start.value start.slope x1 end.value end.slope x }
 {
     let h = x1 - x0;
     let t = (x - x0) / h;
     let t2 = t * t;
     let t3 = t * t * t;
     ValueAndSlope {
-        value: (2.0 * t3 - 3.0 * t2 + 1.0) * y0
-            + (t3 - 2.0 * t2 + t) * h * m0
-            + (3.0 * t2 - 2.0 * t3) * y1
-            + (t3 - t2) * h * m1,
-        slope: ((6.0 * t2 - 6.0 * t) * y0 + (6.0 * t - 6.0 * t2) * y1) / h
-            + (3.0 * t2 - 4.0 * t + 1.0) * m0
-            + (3.0 * t2 - 2.0 * t) * m1,
+        value: (2.0 * t3 - 3.0 * t2 + 1.0) * start.value
+            + (t3 - 2.0 * t2 + t) * h * start.slope
+            + (3.0 * t2 - 2.0 * t3) * end.value
+            + (t3 - t2) * h * end.slope,
+        slope: ((6.0 * t2 - 6.0 * t) * start.value + (6.0 * t - 6.0 * t2) * end.value) / h
+            + (3.0 * t2 - 4.0 * t + 1.0) * start.slope
+            + (3.0 * t2 - 2.0 * t) * end.slope,
     }
 }
 
@@ -90,17 +90,12 @@ fn cone_transonic(s: f64, mach: f64) -> ValueAndSlope
     if mach >= CONE_SUPERSONIC_MACH {
         return cone_supersonic(s, mach);
     }
-    let slope_at_1 = 4.0 / (GAMMA + 1.0) * (1.0 - 0.5 * s);
+    let start = ValueAndSlope {
+        value: s,
+        slope: 4.0 / (GAMMA + 1.0) * (1.0 - 0.5 * s),
+    };
     let end = cone_by_root(s, CONE_SUPERSONIC_MACH, CONE_SUPERSONIC_ROOT);
-    hermite(
-        1.0,
-        s,
-        slope_at_1,
-        CONE_SUPERSONIC_MACH,
-        end.value,
-        end.slope,
-        mach,
-    )
+    hermite(1.0, start, CONE_SUPERSONIC_MACH, end, mach)
 }
 
 // The sine of a cone's half-angle, tan ε = 1/(2f) (eq. B.3).
