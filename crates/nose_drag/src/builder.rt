@@ -138,6 +138,7 @@ impl Nose {
 }
 
 // Whether a shape takes any of the closed-form cone. A NaN parameter counts, so that a broken number can't hide it.
+#[tactic(auto, using(elementary::proofs::Floats::differs))]
 pub fn takes_cone_formula(shape: NoseShape) -> bool
     ensures { result ≡ takes_cone_formula shape }
 {
@@ -145,8 +146,8 @@ pub fn takes_cone_formula(shape: NoseShape) -> bool
         NoseShape::Conical => true,
         NoseShape::Ogive { radius_ratio: _ } => true,
         NoseShape::Elliptical => false,
-        NoseShape::PowerSeries { exponent } => exponent != exponent || exponent > 0.75,
-        NoseShape::ParabolicSeries { parameter } => parameter != parameter || parameter < 0.5,
+        NoseShape::PowerSeries { exponent } => exponent.is_nan() || exponent > 0.75,
+        NoseShape::ParabolicSeries { parameter } => parameter.is_nan() || parameter < 0.5,
         NoseShape::Haack { parameter: _ } => false,
     }
 }

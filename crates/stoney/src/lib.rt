@@ -247,7 +247,6 @@ impl StoneyNose {
     }
 
     // The first Mach number of the nose's table.
-    #[tactic(auto, using(crate::specs::Points::any_default))]
     pub fn first_mach(self) -> f64
         ensures { result ≡ first_mach self }
     {
