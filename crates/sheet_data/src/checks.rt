@@ -24,6 +24,7 @@ fn in_interval(low: f64, x: f64, high: f64) -> Result<(), AeroError>
     unless(!elementary::is_between(low, x, high), Rule::OutsideInterval)
 }
 
+#[tactic(auto, unfolding(crate::specs::Tests::columns_test), using(aero_error::specs::CheckLaws::up_none, aero_error::specs::CheckLaws::up_end, aero_error::proofs::HandedOn::one_more))]
 fn check_columns(settings: Settings) -> Result<(), AeroError>
     requires { settings.count ≤ most_columns }
     ensures { result ≡ columns_test settings }
@@ -82,6 +83,7 @@ pub fn check_part(part: Part) -> Result<(), AeroError>
     check_own(part.roughness)
 }
 
+#[tactic(auto, unfolding(crate::specs::Tests::parts_test), using(aero_error::specs::CheckLaws::up_none, aero_error::specs::CheckLaws::up_end, aero_error::proofs::HandedOn::one_more))]
 fn check_parts(design: Design) -> Result<(), AeroError>
     requires { design.count ≤ most_parts }
     ensures { result ≡ parts_test (parts_of design) }

@@ -197,44 +197,18 @@ impl StoneyNose {
     pub fn points(self) -> PointRange
         ensures { result ≡ range_of self }
     {
-        match self {
-            StoneyNose::PowerQuarter => PointRange {
-                first: 0,
-                count: 12,
-            },
-            StoneyNose::PowerHalf => PointRange {
-                first: 12,
-                count: 17,
-            },
-            StoneyNose::PowerThreeQuarters => PointRange {
-                first: 29,
-                count: 18,
-            },
-            StoneyNose::ParabolaHalf => PointRange {
-                first: 47,
-                count: 18,
-            },
-            StoneyNose::ParabolaThreeQuarters => PointRange {
-                first: 65,
-                count: 18,
-            },
-            StoneyNose::Parabola => PointRange {
-                first: 83,
-                count: 18,
-            },
-            StoneyNose::Ellipsoid => PointRange {
-                first: 101,
-                count: 12,
-            },
-            StoneyNose::LvHaack => PointRange {
-                first: 113,
-                count: 18,
-            },
-            StoneyNose::VonKarman => PointRange {
-                first: 131,
-                count: 18,
-            },
-        }
+        let (first, count) = match self {
+            StoneyNose::PowerQuarter => (0, 12),
+            StoneyNose::PowerHalf => (12, 17),
+            StoneyNose::PowerThreeQuarters => (29, 18),
+            StoneyNose::ParabolaHalf => (47, 18),
+            StoneyNose::ParabolaThreeQuarters => (65, 18),
+            StoneyNose::Parabola => (83, 18),
+            StoneyNose::Ellipsoid => (101, 12),
+            StoneyNose::LvHaack => (113, 18),
+            StoneyNose::VonKarman => (131, 18),
+        };
+        PointRange { first, count }
     }
 
     // The nose's points.
