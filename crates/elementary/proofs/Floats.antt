@@ -25,14 +25,18 @@ nan_above b h = only_nan (of_bits binary64 b) (sym (nan_bits_is binary64 b) ∙ 
 pub nan_below : (b : ℕ) → b % 2 ^ 63 ≤ 2047 * 2 ^ 52 → T (not (nan_bits binary64 b))
 nan_below b h = rw (nan_bits_above binary64 b, le-ltb (2047 * 2 ^ 52) (b % 2 ^ 63) h) tt
 
--- only a NaN differs from itself
+-- ---- only a NaN differs from itself
+
+pub is_nan_lem : (x : Float) → ne x x ≡ true → x ≡ nan
+is_nan_lem x e = differs_from_itself x (true_t e)
+
 same : (x : Float) → is_nan x ≡ false → ne x x ≡ false
 unfolding is_nan
 same x n = go (ne x x) refl
   where
     go : (b : Bool) → ne x x ≡ b → b ≡ false
     go false e = refl
-    go true e = absurd (false≢true (sym n ∙ ap is_nan (differs_from_itself x (true_t e))))
+    go true e = absurd (false≢true (sym n ∙ ap is_nan (is_nan_lem x e)))
 
 pub differs : (x : Float) → ne x x ≡ is_nan x
 unfolding is_nan
