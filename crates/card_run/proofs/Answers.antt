@@ -22,7 +22,7 @@ use Rattle.drag_sheet.proofs.Verdicts.{never}
 use Rattle.drag_sheet.proofs.Answers.{settings_facts, call_facts, bounds}
 use Rattle.cards.specs.Cards.{settings_at}
 use Rattle.card_run.specs.declared.Run.{Run}
-use Rattle.card_run.specs.Run.{FirstCard, unsaid, first_read, Ran, stopped_at, first_card, stream_of, last_place, insert_last, sheet_after, cells_after, all_part_cards, Stopped}
+use Rattle.card_run.specs.Run.{FirstCard, first_read, Ran, stopped_at, first_card, stream_of, last_place, insert_last, sheet_after, cells_after, all_part_cards, Stopped}
 use Rattle.card_run.proofs.Stream.{sheet_then, outcome}
 
 -- ---- what a call's contract says, by its outcome: of the sheet given or left, of the cells xs or zs
@@ -105,10 +105,6 @@ stopped_at_lem ran card o sheet ys r e i h k =
     }
 
 -- ---- the settings card is asked of every stream that has a byte
-
-pub first_of_none : (s : List ℕ) → length s ≡ 0 → first_read s ≡ Ok (unsaid, 0)
-first_of_none [] e = refl
-first_of_none (b ∷ s) e = absurd (omega arith)
 
 pub first_of_some : (s : List ℕ) → 0 < length s → first_read s ≡ settings_at s 0
 first_of_some [] h = absurd (omega arith)

@@ -72,9 +72,6 @@ bounds burnout s count e = tt
 
 -- ---- the contract
 
-pub called_refused : (call : Call) (sheet : Sheet) (xs : List Float) (r : Check) (e : AeroError) → call_test call sheet (length xs) ≡ Err e → r ≡ Err e → Called call sheet xs (record { outcome = r; sheet = sheet }) xs
-called_refused call sheet xs r e t f = record { answer = rw (t, f); left = rw t }
-
 pub called : (call : Call) (sheet : Sheet) (xs : List Float) (r : Answer) (ys : List Float) (test : Check) (new : Sheet) → call_test call sheet (length xs) ≡ Ok tt → test ≡ tries call (after call sheet)
     → new ≡ sheet_with (after call sheet) sheet → r ≡ answered test sheet new → ys ≡ chosen test xs (overwritten (scope call (after call sheet)) (after call sheet) xs) → Called call sheet xs r ys
 called call sheet xs r ys test new p t n a l = record { answer = a ∙ rw (n, p, t); left = l ∙ rw (p, t) }
@@ -97,9 +94,6 @@ module _ (call : Call) (sheet left : Sheet) (xs : List Float) (r : Check) (ys : 
 
   pub whole_accepted : r ≡ Ok tt → Called call sheet xs (record { outcome = Ok tt; sheet = left }) ys
   whole_accepted h = whole_called _ (rw h)
-
-pub opened_refused : (s : Settings) (xs : List Float) (r : Check) (e : AeroError) → settings_test s (length xs) ≡ Err e → r ≡ Err e → Opened s xs (record { outcome = r; sheet = blank s }) xs
-opened_refused s xs r e t f = record { answer = rw (t, f); left = rw t }
 
 -- with no parts nothing is tried
 pub blank_tried : (s : Settings) → trial (contents_of (blank s)) ≡ Ok tt

@@ -17,7 +17,7 @@ use Rattle.sheet_data.specs.Rows.{written, rows_written}
 use Rattle.sheet_data.specs.RowLaws.{rows_append}
 use Rattle.drag_sheet.specs.Build.{row_test, row_of}
 use Rattle.drag_sheet.specs.Writing.{chosen, rows, totalled, overwritten}
-use Rattle.drag_sheet.specs.Calls.{Answer, Call, replace, insert, remove, set_column, insert_at, remove_at, with_column, with_nozzle, row_test_where, replaced_rows, nozzle_rows, body_rows, tries, scope, after, call_test, sheet_with, answered, Called}
+use Rattle.drag_sheet.specs.Calls.{Answer, Call, replace, insert, remove, insert_at, remove_at, with_nozzle, row_test_where, replaced_rows, nozzle_rows, body_rows, tries, scope, after, call_test, sheet_with, answered, Called}
 use Rattle.drag_sheet.specs.Edits.{replaced_in, Changed, NozzlePut}
 use Rattle.drag_sheet.proofs.Answers.{called, contents_with}
 use Rattle.drag_sheet.proofs.Slots.{inserted_long, removed_long}
@@ -76,9 +76,6 @@ module _ (sheet : Sheet) (slots : length sheet.design.parts ≡ most_parts) (few
       let new : set d.parts place p ≡ set (parts_of d) place p ++ drop d.count d.parts =
       sym (take-append-drop d.count (set d.parts place p)) ∙ rw (take-set-lt d.count d.parts place p h, drop-set-lt d.count d.parts place p h) in
       rw (n, new)
-
-  pub column_sheet : (k : ℕ) (M R : Float) → record { settings = with_column sheet.settings k M R; design = sheet.design; nozzle_diameter = sheet.nozzle_diameter } ≡ sheet_with (after (set_column k M R) sheet) sheet
-  column_sheet k M R = rw parts_long (ap (λ ps. record { settings = with_column sheet.settings k M R; design = record { count = d.count; parts = ps }; nozzle_diameter = sheet.nozzle_diameter }) split)
 
   pub nozzle_sheet : (n : Float) → record { settings = sheet.settings; design = sheet.design; nozzle_diameter = n } ≡ sheet_with (with_nozzle n (contents_of sheet)) sheet
   nozzle_sheet n = rw parts_long (ap (λ ps. record { settings = sheet.settings; design = record { count = d.count; parts = ps }; nozzle_diameter = n }) split)

@@ -10,7 +10,7 @@ use borrow.Rule.Slice.PartMut.{put_mid}
 use Rattle.std.proofs.Common.{drop-drop, zero-add, add-one}
 use Rattle.std.proofs.lemmas.List.{drop-set, length-take}
 use lib.Dec.{ltb}
-use borrow.Author.Tests.{lt-ltb, le-ltb}
+use borrow.Author.Tests.{le-ltb}
 use lib.Ieee.{Float, to_bits, binary64}
 use Rattle.sheet_data.specs.Layout.{most_columns}
 use Rattle.sheet_data.specs.Rows.{row_at}
@@ -138,10 +138,6 @@ parts_long (suc n) place C cells h =
     omega (arith, a, b, c)
 
 -- ---- a whole text
-
--- a buffer that is too short
-pub printed_short : (s xs : List ℕ) → length xs < most_text → Printed s xs 0 xs
-printed_short s xs h = let e : printed s (length xs) ≡ [] = rw (lt-ltb (length xs) most_text h) in record { count = sym (ap length e); bytes = sym (ap (λ (t : List ℕ). t ++ drop (length t) xs) e); within = omega arith }
 
 -- a text at the start of a buffer that holds it
 pub printed_long : {s text ys : List ℕ} {old new : Text} → Prints text old new → most_text ≤ length old.out.now → old.len ≡ 0 → text ≡ answer_text s → ys ≡ new.out.now → Printed s old.out.now new.len ys
