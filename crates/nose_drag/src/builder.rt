@@ -28,7 +28,7 @@ struct Nose {
 }
 
 impl Nose {
-    // A cone times an ogive's factor: the closed form from fineness 1; below it eq. B.9's form between the flat face and the whole curve at fineness 1.
+    // A cone times an ogive's factor: the closed form from fineness 1; below, eq. B.9's form between flat face and whole curve at fineness 1.
     #[tactic(auto, unfolding(crate::specs::Curves::cone_curve))]
     fn cone(self, factor: f64) -> PressureDragCurve
         ensures { result ≡ cone_curve self.rest self.fineness_ratio factor }

@@ -119,18 +119,6 @@ pub(crate) fn cone_method(sin_half_angle: f64, factor: f64, mach: f64) -> ValueA
     }
 }
 
-// The value alone, for speed.
-#[tactic(auto, unfolding(crate::specs::Forms::cone_method, crate::specs::Forms::cone_transonic))]
-pub(crate) fn cone_value(sin_half_angle: f64, factor: f64, mach: f64) -> f64
-    ensures { result ≡ (cone_method sin_half_angle factor mach).value }
-{
-    if mach >= CONE_SUPERSONIC_MACH {
-        factor * cone_supersonic(sin_half_angle, mach).value
-    } else {
-        cone_method(sin_half_angle, factor, mach).value
-    }
-}
-
 // Eq. B.8's ratio of an ogive's pressure drag to the cone's, for κ in [0, 1].
 #[tactic(auto, unfolding(crate::specs::Methods::ogive_pressure_drag_factor))]
 pub fn ogive_pressure_drag_factor(kappa: f64) -> Result<f64, AeroError>

@@ -7,7 +7,7 @@ ghost use Rattle.nose_drag.specs.Curves.{from_transonic, curve_at, step_curve, c
 ghost use Rattle.nose_drag.specs.Depth.{depth_of_reference, depth_of_transonic};
 ghost use Rattle.nose_drag.specs.declared.curve.Transonic.TheVariants.{Cone};
 
-use crate::cone::{blunt, cone_method, cone_value, sin_half_angle};
+use crate::cone::{blunt, cone_method, sin_half_angle};
 use crate::ellipsoid::ellipsoid;
 use crate::fit::Fit;
 use crate::scaling::{scaled, scaled_value};
@@ -98,7 +98,8 @@ impl Reference {
         }
     }
 
-    // The value alone, for speed. From Mach 1 a cone's whole curve is its method, so that only below a curve is made and asked, one call deeper.
+    // The value alone. From Mach 1 a cone's whole curve is its method, so that only below a curve is made and asked, one call deeper.
+    // By `value_and_slope` in its place a cone's coefficient above Mach 1 takes 1.06 times as long, a parabolic series' 1.05 (docs/DECISIONS.md, 77).
     #[tactic(auto, unfolding(crate::specs::Forms::blunt), using(crate::specs::Values::whole_cone_above, crate::proofs::Cycle::cone_reference, crate::proofs::Cycle::kept_method))]
     fn value(self, mach: f64, depth: u8) -> f64
         requires { depth_of_reference self ≤ depth }
@@ -116,7 +117,7 @@ impl Reference {
                     let curve = PressureDragCurve::from_transonic(rest, cone, 1.0, depth - 1);
                     curve.value_and_slope(mach, depth - 1).value
                 } else {
-                    cone_value(sin_half_angle(fineness_ratio), factor, mach)
+                    cone_method(sin_half_angle(fineness_ratio), factor, mach).value
                 }
             }
             Reference::Stoney(nose) => nose.value_and_slope(mach).value,
@@ -163,7 +164,8 @@ impl Transonic {
         }
     }
 
-    // The value alone, for speed, which is all that a coefficient takes: each case hands on its numbers, and no method is copied.
+    // The value alone, which is all that a coefficient takes: each case hands on its numbers, and no method is copied.
+    // By `value_and_slope` in its place a step's coefficient above Mach 1 takes 1.15 times as long, a parabolic series' 1.06 (docs/DECISIONS.md, 77).
     #[tactic(auto, unfolding(crate::specs::Forms::blunt), using(crate::specs::Values::value_of_scaled))]
     fn value(self, mach: f64, depth: u8) -> f64
         requires { depth_of_transonic self ≤ depth }
@@ -174,7 +176,7 @@ impl Transonic {
             Transonic::Cone {
                 sin_half_angle,
                 factor,
-            } => cone_value(sin_half_angle, factor, mach),
+            } => cone_method(sin_half_angle, factor, mach).value,
             Transonic::Scaled {
                 lower,
                 upper,

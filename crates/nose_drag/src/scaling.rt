@@ -68,7 +68,7 @@ pub(crate) fn scaled(
     }
 }
 
-// The value alone, for speed.
+// The value alone. By `value_and_slope` all the way a parabolic series' coefficient above Mach 1 takes 1.10 times as long (docs/DECISIONS.md, 77).
 #[tactic(auto, unfolding(crate::specs::Values::scaled_value))]
 pub(crate) fn scaled_value(lo: f64, hi: f64, weight: f64, exponent: f64, mach: f64) -> f64
     ensures { result ≡ scaled_value lo hi weight exponent mach }
