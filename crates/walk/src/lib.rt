@@ -38,11 +38,8 @@ fn check_given(machs: &[f64], cells: usize) -> Result<(), AeroError>
 fn check_rising(machs: &[f64]) -> Result<(), AeroError>
     ensures { result ≡ rising_test machs.now }
 {
-    // By index: a window of two would be opened by index again.
-    for i in 1..machs.len() {
-        unless(machs[i] < machs[i - 1], Rule::FallingMach)?;
-    }
-    Ok(())
+    let rises = machs.is_sorted_by(|before, mach| !(mach < before));
+    unless(!rises, Rule::FallingMach)
 }
 
 impl Walker<'_> {
