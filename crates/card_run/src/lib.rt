@@ -47,14 +47,11 @@ fn run_parts(s: &[u8], start: usize, sheet: &mut Sheet, cells: &mut [f64]) -> Re
 fn first_card(s: &[u8]) -> Result<(Settings, usize), AeroError>
     ensures { result ≡ first_read s.now }
 {
-    if s.len() == 0 {
+    if s.is_empty() {
         let settings = Settings {
             reference_diameter: 1.0,
-            roughness: 0.0,
             body_fineness: 1.0,
-            count: 0,
-            machs: [0.0; COLUMNS],
-            reynolds: [0.0; COLUMNS],
+            ..cards::no_settings()
         };
         return Ok((settings, 0));
     }

@@ -67,7 +67,7 @@ pub fn from_bits(bits: u64) -> f64
 
 // ---- tests and choices that the formulas share
 
-// Neither a NaN nor an infinity: only those give a NaN when they are taken from themselves.
+// Neither a NaN nor an infinity.
 pub fn is_finite(x: f64) -> bool
     ensures { result ≡ finite x }
 {
@@ -202,20 +202,21 @@ fn exp_steps(y: f64) -> f64
     ensures { result ≡ exp_steps y }
 {
     let k = floor(y / LN_2 + 0.5);
-    let negative = k.negative;
-    let size = k.size;
-    let half = size / 2;
-    let whole = signed_number(negative, size);
-    let p = exp_series(y - whole * LN_2);
-    p * signed_power(negative, half) * signed_power(negative, size - half)
+    let half = k.size / 2;
+    let p = exp_series(y - signed_number(k) * LN_2);
+    p * signed_power(k.negative, half) * signed_power(k.negative, k.size - half)
 }
 
-// n, or -n.
-fn signed_number(negative: bool, n: u64) -> f64
-    requires { n ≤ 2 ^ 53 }
-    ensures { result ≡ whole_of (record { negative = negative; size = n }) }
+// A whole number as a float.
+fn signed_number(n: Whole) -> f64
+    requires { n.size ≤ 2 ^ 53 }
+    ensures { result ≡ whole_of n }
 {
-    if negative { -number(n) } else { number(n) }
+    if n.negative {
+        -number(n.size)
+    } else {
+        number(n.size)
+    }
 }
 
 pub fn exp(y: f64) -> f64

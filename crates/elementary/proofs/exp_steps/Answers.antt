@@ -16,8 +16,8 @@ floor-k-requires c = within_more (c.args.y ⊘ ln_2 ⊕ 0·5) 1493 (2 ^ 51) (lit
 short : (c : After-floor-k) → c.floor-k.result.size ≤ 1494
 short c = rw c.floor-k.ensures (floor_within _ 1493 (exponent_within c.args.y c.requires))
 
-pub signed_number-whole-requires : goal.signed_number-whole-requires
-signed_number-whole-requires c = omega (arith, short (goal.at.signed_number-whole-requires c).After-floor-k)
+pub signed_number-requires : goal.signed_number-requires
+signed_number-requires c = omega (arith, short (goal.at.signed_number-requires c).After-floor-k)
 
 pub signed_power-requires : goal.signed_power-requires
 signed_power-requires c = omega (arith, short (goal.at.signed_power-requires c).After-floor-k)
@@ -27,4 +27,4 @@ signed_power-requires-2 c = omega (arith, short (goal.at.signed_power-requires-2
 
 pub returns : goal.returns
 unfolding exp_steps
-returns c = rw (c.signed_power-2.ensures, c.signed_power.ensures, c.exp_series-p.ensures, c.signed_number-whole.ensures, c.floor-k.ensures)
+returns c = rw (c.signed_power-2.ensures, c.signed_power.ensures, c.exp_series-p.ensures, c.signed_number.ensures, c.floor-k.ensures)
