@@ -29,9 +29,10 @@ fn check_columns(settings: Settings) -> Result<(), AeroError>
     requires { settings.count ≤ most_columns }
     ensures { result ≡ columns_test settings }
 {
-    // By index: over a zip of the two arrays the proof has to follow three iterators.
-    for i in 0..settings.count {
-        drag::check_flow(settings.machs[i], settings.reynolds[i])?;
+    let machs = &settings.machs[..settings.count];
+    let reynolds = &settings.reynolds[..settings.count];
+    for (mach, reynolds) in machs.iter().zip(reynolds) {
+        drag::check_flow(*mach, *reynolds)?;
     }
     Ok(())
 }
