@@ -114,8 +114,8 @@ pub fn wall_of(relative_roughness: f64) -> Wall
     }
 }
 
-// Eq. 3.80 where the roughness limits at this Reynolds number, and otherwise 0, which nobody reads: a Wall has a number there, and an Option would be
-// opened again at each Reynolds number.
+// Eq. 3.80 where the roughness limits at this Reynolds number, and otherwise 0, which nobody reads. No Option: the definitions of a wall and of a flow
+// have that 0, and they stand.
 fn limited_from(critical: Result<f64, AeroError>, reynolds: f64, relative_roughness: f64) -> f64
     ensures { result ≡ limited_from critical reynolds relative_roughness }
 {
@@ -165,7 +165,7 @@ fn limits(wall: Wall, reynolds: f64) -> bool
     LOW_REYNOLDS <= reynolds && wall.critical.is_ok_and(|critical| reynolds >= critical)
 }
 
-// The turbulent friction where it is asked for, and otherwise 0, which nobody reads: no Option, as above, since a Flow is asked by many walls.
+// The turbulent friction where it is asked for, and otherwise 0, which nobody reads. No Option, as in `limited_from`.
 fn turbulent_where(asked: bool, reynolds: f64) -> f64
     ensures { result ≡ turbulent_where asked reynolds }
 {

@@ -1,5 +1,6 @@
 // The cycle: a curve asks its transonic method, the method may ask a reference, and a reference may be a whole cone curve, which asks its
-// own method again. Each call carries a depth number that falls; `DEPTH` is enough for every curve, so no answer depends on it.
+// own method again. Each call carries a depth number that falls; `DEPTH` is enough for every curve, so no answer depends on it. The number stays, and with
+// it what each call requires of it: it is among the forms that this port shows (docs/DECISIONS.md, 28).
 ghost use Rattle.std.specs.Prelude.{◌≡◌, ◌≤◌, suc};
 ghost use Rattle.nose_drag.specs.Forms.{sin_half_angle};
 ghost use Rattle.nose_drag.specs.Methods.{reference_at, method_at};

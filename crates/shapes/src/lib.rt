@@ -55,8 +55,8 @@ impl NoseShape {
         }
     }
 
-    // The shape of a number, with this parameter where it has one; a number above 5 counts as 5. No `TryFrom`: it takes two, and cards and words have
-    // refused such a number before.
+    // The shape of a number, with this parameter where it has one; a number above 5 counts as 5. It can't fail, so it is no `TryFrom`; a kind
+    // without its parameter, made by one, would name the six cases once more. Cards and words refuse such a number before.
     pub fn of_number(number: u64, parameter: f64) -> NoseShape
         ensures { result ≡ shape_of number parameter }
     {

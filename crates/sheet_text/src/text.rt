@@ -74,7 +74,7 @@ impl Text<'_> {
         self.bytes(&hex_digits(elementary::to_bits(x)));
     }
 
-    // The numbers of a row, and the end of the line.
+    // The numbers of a row, and the end of the line. That they are few stands in three contracts: rows come from a sheet, Machs from its settings.
     pub(crate) fn numbers(&mut self, row: &[f64])
         requires { (length row.now ≤ most_columns) × Room row_text self.old }
         ensures { Prints (numbers_text row.now ++ (line_feed ∷ [])) self.old self.new }

@@ -166,7 +166,8 @@ fn part_at(line: &[u8], roughness: Roughness) -> [u64; PART_WORDS] {
 // Room for one row of cells too many.
 const ROOM: usize = CELLS + COLUMNS;
 
-// The sheet's words, all cells, how many of these are lent, the last two words of the parts given, and what is counted so far.
+// The sheet's words, all cells, how many of these are lent, the last two words of the parts given, and what is counted so far. How many are lent changes
+// from line to line, more than there are too, so it is no slice.
 #[derive(Drop)]
 struct State {
     words: [u64; SHEET_WORDS],
