@@ -38,19 +38,21 @@ fn number_at(s: &[u8], at: usize) -> f64
     elementary::from_bits(u64::from_le_bytes(*s[at..].first_chunk().unwrap()))
 }
 
-// One of the two floats of each of n columns, in an array for as many as there may be. It begins where
-// its first float does, which for the second of a pair is not where a reader stands.
-#[tactic(auto, using(crate::proofs::Numbers::slot_filled), unfolding(crate::specs::Fields::numbers_at))]
-pub(crate) fn numbers_at(n: usize, s: &[u8], at: usize) -> [f64; COLUMNS]
-    requires { (n ≤ most_columns) × (at + pair_bytes * n ≤ length s.now + number_bytes) }
-    ensures { result ≡ slots n (numbers_at n s.now at) }
+// The Machs and the Reynolds numbers of n pairs, each in an array for as many as there may be.
+#[tactic(auto, using(crate::proofs::Numbers::pair_filled), unfolding(crate::specs::Fields::numbers_at))]
+pub(crate) fn pairs_at(n: usize, s: &[u8], at: usize) -> ([f64; COLUMNS], [f64; COLUMNS])
+    requires { (n ≤ most_columns) × (at + pair_bytes * n ≤ length s.now) }
+    ensures machs { result.0 ≡ slots n (numbers_at n s.now at) }
+    ensures reynolds { result.1 ≡ slots n (numbers_at n s.now (at + number_bytes)) }
 {
-    let mut out = [0.0; COLUMNS];
-    // By index: where the second floats are read, the last pair is half a chunk.
-    for i in 0..n {
-        out[i] = number_at(s, at + PAIR_BYTES * i);
+    let mut machs = [0.0; COLUMNS];
+    let mut reynolds = [0.0; COLUMNS];
+    let (pairs, _) = s[at..at + PAIR_BYTES * n].as_chunks::<PAIR_BYTES>();
+    for (i, pair) in pairs.iter().enumerate() {
+        machs[i] = number_at(pair, 0);
+        reynolds[i] = number_at(pair, NUMBER_BYTES);
     }
-    out
+    (machs, reynolds)
 }
 
 impl Reader<'_> {

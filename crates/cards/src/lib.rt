@@ -9,7 +9,7 @@ ghost use Rattle.cards.specs.Cards.{takes_parameter, parameter_right, shape_at, 
 mod fields;
 
 use aero_error::{AeroError, Rule, unless};
-use fields::{NUMBER_BYTES, PAIR_BYTES, Reader, bit, numbers_at};
+use fields::{NUMBER_BYTES, PAIR_BYTES, Reader, bit, pairs_at};
 use shapes::NoseShape;
 use sheet_data::layout::COLUMNS;
 use sheet_data::{Part, Settings};
@@ -92,8 +92,7 @@ impl Reader<'_> {
         let count = usize::from(n);
         unless(COLUMNS < count, Rule::TooManyColumns)?;
         unless(!self.has(PAIR_BYTES * count), Rule::CardEnds)?;
-        let machs = numbers_at(count, self.bytes, self.at);
-        let reynolds = numbers_at(count, self.bytes, self.at + NUMBER_BYTES);
+        let (machs, reynolds) = pairs_at(count, self.bytes, self.at);
         self.at += PAIR_BYTES * count;
         Ok(Settings {
             reference_diameter: d,

@@ -1,6 +1,8 @@
--- The bits of +0, and the answer of a test under a code.
-use mathlib.Core.Path.{◌≡◌, refl, ap}
-use Prim.Native.Nat.{ℕ, ◌+◌, ◌*◌}
+-- The bits of +0, the points that a nose's table has, and the answer of a test under a code.
+use mathlib.Core.Path.{◌≡◌, refl, sym, ap, ◌∙◌}
+use Prim.Native.Nat.{ℕ, ◌+◌, ◌*◌, ◌<◌}
+use native.Mathlib.Omega.{arith}
+use lib.ListN.{length, get_or}
 use lib.Ieee.{Float, to_bits, of_bits, binary64}
 use Rattle.elementary.specs.Constants.{0·0}
 use mathlib.Core.Bool.{Bool, true, false, cond}
@@ -8,12 +10,24 @@ use Rattle.aero_error.specs.declared.Quantity.{Quantity}
 use Rattle.aero_error.specs.declared.Quantity.TheVariants.{Mach, Fineness, JointAngle, PowerExponent, ParabolicParameter, HaackParameter, EllipsoidFineness, EllipsoidMach, OgiveKappa, FinenessThreeDrag, BluntDrag, TransonicLowerBound, DragAtRest, DragAtLowerBound, SlopeAtLowerBound, MachBelowLowerBound, Reynolds, Roughness, BodyFineness, BoattailLength, BoattailAft, BoattailFore}
 use Rattle.aero_error.specs.Refusals.{code_of_quantity}
 use Rattle.aero_error.specs.Checks.{required}
+use Rattle.stoney.specs.declared.StoneyNose.{StoneyNose}
+use Rattle.stoney.specs.declared.StoredPoint.{StoredPoint}
+use Rattle.stoney.specs.Points.{points, all_points, no_point, any_default, mach_at, drag_at, range_of, at_place}
+use Rattle.stoney.specs.Segments.{count_is}
 use Rattle.cobalnis.specs.Answers.{answer_status, answer_bits, tested, is_code}
 
 -- the bits of +0
 pub zero_bits : to_bits binary64 0·0 ≡ 0
 unfolding to_bits of_bits
 zero_bits = refl
+
+-- a nose's point at a place of its own, by its place among all points
+pub point_there : (nose : StoneyNose) (k : ℕ) (p : StoredPoint) → k < length (points nose) → p ≡ get_or (points nose) k p
+    → let at = (range_of nose).first + k in (mach_at at ≡ p.mach) × (drag_at at ≡ p.drag)
+unfolding mach_at drag_at
+point_there nose k p h e =
+    let same : get_or all_points ((range_of nose).first + k) no_point ≡ p = at_place nose k (omega (arith, count_is nose)) ∙ any_default (points nose) k no_point p h ∙ sym e in
+    (ap (λ (q : StoredPoint). q.mach) same, ap (λ (q : StoredPoint). q.drag) same)
 
 -- a test under a quantity's code
 pub required_status : (ok : Bool) (what : Quantity) (value : Float) (code : ℕ) → code_of_quantity what ≡ code → answer_status (tested (required ok what value)) ≡ cond ok 0 (1 + 256 * code)

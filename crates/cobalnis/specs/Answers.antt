@@ -1,4 +1,5 @@
 -- What each function of the library answers: a status, and what it leaves in the memory that it was lent.
+use denote.Ref.{MutBor}
 use Rattle.std.specs.Prelude.{◌≡◌, Bool, true, false, cond, List, [], ◌∷◌, ℕ, ◌+◌, ◌*◌, length, get_or, drop, eqb, leb, ltb, Float, Ok, Err, Option, Some, None}
 use Rattle.aero_error.specs.Checks.{◌then◌, unless, ◌and_then◌, Check, Coefficient}
 use Rattle.nose_drag.specs.Curves.{step_curve, new_curve, coefficient_of, Curve}
@@ -26,12 +27,10 @@ use Rattle.nose_drag.specs.Below.{subsonic_pressure_drag_coefficient}
 use Rattle.nose_drag.specs.Methods.{ogive_pressure_drag_factor, fineness_scaled_pressure_drag, ellipsoid_subsonic_pressure_drag}
 use Rattle.sheet_data.specs.declared.Sheet.{Sheet}
 use Rattle.sheet_data.specs.Layout.{most_parts}
-use Rattle.drag_sheet.specs.Calls.{Answer, Call, replace, insert, remove, set_column, ignite, burnout, Called, Opened}
+use Rattle.drag_sheet.specs.Calls.{Answer, Call, Called, Opened}
 use Rattle.cards.specs.Fields.{Read}
 use Rattle.sheet_data.specs.declared.Part.{Part}
 use Rattle.sheet_data.specs.declared.Settings.{Settings}
-use Rattle.cobalnis.specs.declared.sheets.Asked.{Asked}
-use Rattle.cobalnis.specs.declared.sheets.Asked.TheVariants.{Insert, Replace, Remove, SetColumn, Ignite, Burnout}
 use Rattle.cobalnis.specs.Words.{first_part, spread, part_words, settings_of, settings_words, sheet_of, sheet_words, shapes_known}
 
 -- ---- the status and the bits of an answer
@@ -194,15 +193,6 @@ CurveAnswered true curve machs xs before r ys said = (r ≡ no_such) × (ys ≡ 
 
 -- ---- the calls on a sheet of words
 
--- the call of what is asked
-abbrev pub call_of : Asked → Call
-call_of (Insert place p) = insert place p
-call_of (Replace place p) = replace place p
-call_of (Remove place) = remove place
-call_of (SetColumn k M R) = set_column k M R
-call_of (Ignite n) = ignite n
-call_of Burnout = burnout
-
 -- accepted, the words are those of the sheet handed back; refused, they are as they were, and the value refused is handed out
 abbrev pub Shown : Check → Sheet → List ℕ → ℕ → List ℕ → ℕ → Type 0
 Shown (Ok _) sheet ws r ws' bits' = (r ≡ 0) × (ws' ≡ sheet_words sheet) × (bits' ≡ 0)
@@ -218,6 +208,12 @@ pub record OpenShown (ws : List ℕ) (xs : List Float) (r : ℕ) (ws' : List ℕ
   pub answer : Answer
   pub opened : Opened (settings_of ws) xs answer ys
   pub shown : Shown answer.outcome answer.sheet ws r ws' bits'
+
+-- what a closure answers and leaves, lent a sheet and cells, is what this call does; `post` is the closure's
+abbrev pub Makes : (MutBor Sheet → MutBor (List Float) → Check → MutBor Sheet → MutBor (List Float) → Type 0) → Call → Type 0
+Makes post call =
+    (sheet : MutBor Sheet) (cells : MutBor (List Float)) (r : Check) (sheet' : MutBor Sheet) (cells' : MutBor (List Float))
+    → post sheet cells r sheet' cells' → Called call sheet.now cells.now (record { outcome = r; sheet = sheet'.now }) cells'.now
 
 -- where every shape has a number up to 5; else refusal 5 before all others
 abbrev pub CallDone : Bool → Call → List ℕ → List Float → ℕ → List ℕ → ℕ → List Float → Type 0

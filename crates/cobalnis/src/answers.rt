@@ -39,6 +39,5 @@ pub(crate) fn hand_out(answer: Result<f64, AeroError>, bits: &mut u64) -> u32
 pub(crate) fn tested(check: Result<(), AeroError>) -> Result<f64, AeroError>
     ensures { result ≡ tested check }
 {
-    check?;
-    Ok(0.0)
+    check.map(|()| 0.0)
 }

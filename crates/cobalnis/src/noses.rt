@@ -17,17 +17,16 @@ use stoney::StoneyNose;
 // ---- Stoney's noses
 
 // The Mach and the drag of a nose's point.
+#[tactic(auto, using(crate::proofs::Tables::point_there, stoney::specs::Segments::count_is, std::proofs::lemmas::Bool::Decides::nat_tests))]
 pub fn cobalnis_nose_point(nose: u32, place: usize, out: &mut [u64; 2]) -> u32
     ensures { (result ≡ point_status nose place) × (out.new ≡ point_words nose place out.old) }
 {
     let Ok(known) = StoneyNose::try_from(nose) else {
         return NO_SUCH;
     };
-    let range = known.points();
-    if range.count <= place {
+    let Some(point) = known.table().get(place) else {
         return status_of(AeroError::Broken(Rule::NoSuchPlace));
-    }
-    let point = stoney::point_at(range.first + place);
+    };
     *out = [
         elementary::to_bits(point.mach),
         elementary::to_bits(point.drag),
@@ -97,10 +96,7 @@ fn curve_of(
 fn coefficient_bits(curve: PressureDragCurve, mach: f64) -> u64
     ensures { result ≡ coefficient_bits curve mach }
 {
-    match curve.coefficient(mach) {
-        Ok(v) => elementary::to_bits(v),
-        Err(e) => elementary::to_bits(e.value()),
-    }
+    elementary::to_bits(curve.coefficient(mach).unwrap_or_else(|e| e.value()))
 }
 
 #[tactic(auto, using(crate::proofs::Turns::coefficient_more), unfolding(crate::specs::Words::spread))]
@@ -123,7 +119,7 @@ fn about(value: f64, curve: PressureDragCurve) -> [u64; 3]
     ]
 }
 
-// Room for the words, then every Mach number by itself.
+// Room for the words, then every Mach number by itself. As `walk`'s, without its first test: two lines.
 fn check_given(machs: &[f64], cells: usize) -> Result<(), AeroError>
     ensures { result ≡ (unless (ltb cells (length machs.now)) TooFewCells then machs_test machs.now) }
 {
