@@ -187,27 +187,21 @@ impl Function {
 fn asked(tag: u8, line: &[u8]) -> bool
     ensures { result ≡ asked tag line.now }
 {
-    match Function::of_tag(tag) {
-        Some(function) => is_answer(line, function.answer(line)),
-        None => false,
-    }
+    Function::of_tag(tag).is_some_and(|function| is_answer(line, function.answer(line)))
 }
 
 // Whether the whole line can be read, and its answer is the function's.
 fn agrees(line: &[u8]) -> bool
     ensures { result ≡ line_agrees line.now }
 {
-    is_line(line) & asked(tag_of(line), line)
+    is_line(line) && asked(tag_of(line), line)
 }
 
 // Where a line is counted; one that asks for no function in the last slot.
 fn kind_of(tag: u8, number: u64) -> u64
     ensures { result ≡ kind_of tag number }
 {
-    match Function::of_tag(tag) {
-        Some(function) => function.slot(number),
-        None => NO_KIND,
-    }
+    Function::of_tag(tag).map_or(NO_KIND, |function| function.slot(number))
 }
 
 // One line more.

@@ -80,7 +80,7 @@ pub fn tag_of(line: &[u8]) -> u8
     byte_at(line, 0)
 }
 
-// Whether the whole line can be read.
+// Whether the whole line can be read. By `&`, so that the proof goes by no cases.
 pub fn is_line(line: &[u8]) -> bool
     ensures { result ≡ is_line line.now }
 {

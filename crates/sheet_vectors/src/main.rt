@@ -256,9 +256,9 @@ impl State {
     // Whether the line can be read and ends with this status, this value and the state's number.
     fn is_answered(&self, line: &[u8], status: u32, refused: u64) -> bool {
         is_line(line)
-            & (word_at(line, 8) == status as u64)
-            & (word_at(line, 9) == refused)
-            & (word_at(line, 10) == number_of(&self.words, &self.cells))
+            && word_at(line, 8) == status as u64
+            && word_at(line, 9) == refused
+            && word_at(line, 10) == number_of(&self.words, &self.cells)
     }
 }
 
