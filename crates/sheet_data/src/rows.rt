@@ -1,0 +1,25 @@
+// The cells of a sheet read by row: how many columns there are, and the cells, row after row. A sheet may have no columns, so its rows are no chunks.
+ghost use Rattle.std.specs.Prelude.{◌≡◌, ◌≤◌, ◌<◌, length};
+ghost use Rattle.sheet_data.specs.Layout.{most_columns, finishes, all_rows, needed};
+ghost use Rattle.sheet_data.specs.Rows.{row_at};
+
+#[derive(Clone, Copy, Drop)]
+pub struct Rows<'a> {
+    pub columns: usize,
+    pub cells: &'a [f64],
+    pub ghost few: { columns ≤ most_columns },
+    pub ghost there: { needed columns ≤ length cells.now },
+}
+
+impl<'a> Rows<'a> {
+    // The cells of a row, one for each column.
+    pub fn row(self, row: usize) -> &'a [f64]
+        requires { row < all_rows finishes }
+        ensures cells { result.now ≡ row_at self.entry.columns self.entry.cells.now row }
+        ensures wide { length result.now ≡ self.entry.columns }
+    {
+        let from = row * self.columns;
+        let end = from + self.columns;
+        &self.cells[from..end]
+    }
+}
