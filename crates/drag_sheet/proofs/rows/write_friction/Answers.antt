@@ -4,11 +4,11 @@ use Prim.Native.Nat.{◌+◌}
 use native.Mathlib.Omega.{arith}
 use lib.ListN.{length}
 use lib.Seq.{take_at}
+use Rattle.std.proofs.lemmas.List.{take-replicate}
 use Rattle.elementary.specs.Constants.{0·0}
 use Rattle.sheet_data.specs.Layout.{most_columns, finishes_few, friction_row}
 use Rattle.sheet_data.specs.Contents.{contents_of}
 use Rattle.sheet_data.specs.Tables.{tab_long}
-use Rattle.drag_sheet.proofs.Taken.{zeros}
 use Rattle.drag_sheet.proofs.MadeRows.{friction_made}
 use Rattle.drag_sheet.proofs.rows.write_friction.Goals as goal
 use Rattle.drag_sheet.proofs.rows.write_friction.Goals.{After-sum_parts}
@@ -19,7 +19,7 @@ sum_long c = ap length c.sum_parts.ensures ∙ tab_long _ _
 
 pub sum_parts-requires : goal.sum_parts-requires
 sum_parts-requires c =
-    record { columns = c.requires.0.columns; parts = c.requires.0.parts; zeros = zeros 0·0 c.args.sheet.settings.count most_columns c.requires.0.columns }
+    record { columns = c.requires.0.columns; parts = c.requires.0.parts; zeros = take-replicate c.args.sheet.settings.count most_columns 0·0 c.requires.0.columns }
 
 pub returns : goal.returns
 returns c =
