@@ -1,6 +1,6 @@
 // The rows of a sheet over lent cells: where one begins, one written, the last rows written anew, all of them built from nothing, and a column.
-// The functions that write keep the sheet, or its count of columns, and the lent cells as two parameters, with their bounds (`Fits`) in each contract:
-// a struct of both would say them once, and each of its methods would have to ensure in exchange that the lent cells stay the same ones (`ghost_name`).
+// The functions that write keep the sheet, or its count of columns, and the lent cells as parameters of their own, with `Fits` in each contract: a
+// struct of both would say it once, and each of its methods would have to ensure in exchange that the lent cells stay the same ones (`ghost_name`).
 // A finish is a plain number below `finishes()`, as a row is below `rows()`.
 ghost use Rattle.std.specs.Prelude.{◌≡◌, ◌+◌, ◌*◌, ◌≤◌, ◌<◌, length, get_or, replicate};
 ghost use Rattle.std.specs.Float.{nan};
