@@ -3,8 +3,11 @@ use Rattle.std.specs.Prelude.{Ok}
 use Rattle.aero_error.specs.Checks.{up_to, Check}
 use mathlib.Core.Path.{◌≡◌, ap}
 use mathlib.Core.List.{List}
-use Prim.Native.Nat.{◌≤◌}
-use lib.ListN.{length, take, get_or}
+use Prim.Native.Nat.{ℕ, ◌≤◌}
+use lib.ListN.{length, take, get_or, replicate}
+use Rattle.std.proofs.lemmas.List.{take-replicate}
+use Rattle.elementary.specs.Constants.{0·0}
+use Rattle.sheet_data.specs.Layout.{most_columns}
 use lib.Seq.{length-take-le, get_or-take}
 use lib.Ieee.{Float, nan}
 use Rattle.aero_error.specs.CheckLaws.{up_same}
@@ -16,6 +19,10 @@ use Rattle.drag_sheet.specs.Formulas.{cell_of, made_test, value_of}
 use Rattle.drag_sheet.specs.Build.{row_test_from, row_from}
 use Rattle.drag_sheet.specs.Writing.{Filled}
 use Rattle.drag_sheet.proofs.Verdicts.{filled_same}
+
+-- so many of the +0 that a row is added up from
+pub zero_row : (n : ℕ) → n ≤ most_columns → take n (replicate most_columns 0·0) ≡ replicate n 0·0
+zero_row n h = take-replicate n most_columns 0·0 h
 
 pub taken_row : (row : Row) (s : Settings) → s.count ≤ length s.machs → {r : Check} {out : List Float}
     → Filled (up_to (length (take s.count s.machs)) (λ k. made_test (cell_of row (get_or (take s.count s.machs) k nan)))) (tab (length (take s.count s.machs)) (λ k. value_of (cell_of row (get_or (take s.count s.machs) k nan)))) r out

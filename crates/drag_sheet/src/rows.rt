@@ -60,6 +60,7 @@ fn add_parts(rows: Rows, sum: &mut [f64])
 }
 
 // The total row of a finish: the part rows, its friction row and the base row as they stand, added into `sum`, which holds +0.
+#[tactic(auto, using(sheet_data::specs::Layout::finishes_few))]
 fn sum_rows(finish: usize, rows: Rows, sum: &mut [f64])
     requires { (finish < finish_count) × (sum.old ≡ replicate rows.columns 0·0) }
     ensures { sum.new ≡ total_there rows.entry.columns rows.entry.cells.now finish }
@@ -70,6 +71,7 @@ fn sum_rows(finish: usize, rows: Rows, sum: &mut [f64])
 }
 
 // Writes the total row of a finish.
+#[tactic(auto, using(crate::proofs::Taken::zero_row, sheet_data::specs::Layout::finishes_few))]
 fn write_total(finish: usize, count: usize, cells: &mut [f64])
     requires { (finish < finish_count) × (count ≤ most_columns) × (needed count ≤ length cells.old) }
     ensures { cells.new ≡ written (total_row finish_count finish * count) (total_there count cells.old finish) cells.old }
@@ -96,6 +98,7 @@ fn write_totals(count: usize, cells: &mut [f64])
 }
 
 // Writes the friction row of a finish.
+#[tactic(auto, using(crate::proofs::Taken::zero_row, sheet_data::specs::Layout::finishes_few))]
 fn write_friction(sheet: Sheet, finish: usize, cells: &mut [f64])
     requires { Fits sheet (length cells.old) × (finish < finish_count) }
     ensures { cells.new ≡ written (friction_row finish * sheet.settings.count) (row_of (contents_of sheet) (friction_row finish)) cells.old }

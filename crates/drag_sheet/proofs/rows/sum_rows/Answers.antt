@@ -2,7 +2,7 @@
 use mathlib.Core.Path.{◌≡◌}
 use Prim.Native.Nat.{◌+◌}
 use native.Mathlib.Omega.{arith}
-use Rattle.sheet_data.specs.Layout.{finishes_few, friction_row}
+use Rattle.sheet_data.specs.Layout.{friction_row}
 use Rattle.drag_sheet.proofs.Sums.{add_there}
 use Rattle.drag_sheet.proofs.rows.sum_rows.Goals as goal
 
@@ -11,6 +11,3 @@ returns c =
     let row : c.friction_row.result + c.args.finish ≡ friction_row c.args.finish = omega (arith, c.friction_row.ensures) in
     let first = add_there _ _ _ _ _ _ _ (rw row at c.row.ensures.cells) c.add_parts.ensures c.add_row.ensures in
     add_there _ _ _ _ _ _ _ (rw c.base_row.ensures at c.row-2.ensures.cells) first c.add_row-2.ensures
-
-pub overflow_add-friction_row : goal.overflow_add-friction_row
-overflow_add-friction_row c = omega (arith, finishes_few)
