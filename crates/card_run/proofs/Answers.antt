@@ -79,7 +79,7 @@ pub accepted_part : (sheet : Sheet) (cells : ℕ) (part : Part) → decision (in
 accepted_part sheet cells part e =
     let call = insert_last sheet part in
     let f = call_facts call sheet cells (both_passed (call_test call sheet cells) (tries call (after call sheet)) e).first in
-    record { fits = f.fits; room = (bounds call sheet.settings sheet.design.count f.arguments).1 }
+    record { fits = f.fits; room = f.within.1 }
 
 pub fits_after : (sheet : Sheet) (part : Part) (cells : ℕ) → decision (insert_last sheet part) sheet cells ≡ Ok tt → Fits (sheet_then sheet part) cells
 fits_after sheet part cells d =

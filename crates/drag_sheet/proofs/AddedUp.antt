@@ -4,7 +4,8 @@ use Rattle.std.specs.Prelude.{Result, is_some, Some, Option, None}
 use Rattle.aero_error.specs.Checks.{Coefficient}
 use mathlib.Core.Path.{◌≡◌, refl, sym, ap, ◌∙◌}
 use mathlib.Core.Logic.{inl}
-use mathlib.Core.Bool.{Bool, true, false, ◌||◌, false≢true}
+use Rattle.std.proofs.Math.Bool.{or-true}
+use mathlib.Core.Bool.{true, false, false≢true}
 use mathlib.Core.List.{List, [], ◌∷◌}
 use Prim.Native.Nat.{ℕ, zero, suc, ◌<◌}
 use native.Mathlib.Nat.{not-suc-le-zero, le_of_suc-le-suc}
@@ -26,15 +27,11 @@ use Rattle.drag_sheet.specs.Formulas.{value_of, roughness_of, formed_friction, s
 use Rattle.drag_sheet.specs.Body.{friction_row_cells, any_own, no_flow, flow_at, Flows, formed, formed_for}
 use Rattle.drag_sheet.proofs.Sums.{sum_same}
 
-or_right : (a : Bool) → (a || true) ≡ true
-or_right true = refl
-or_right false = refl
-
 -- a part with a roughness of its own is seen
 seen : (ps : List Part) (i : ℕ) → i < length ps → is_some (part_at ps i).roughness ≡ true → any_own ps ≡ true
 seen [] i h e = absurd (not-suc-le-zero h)
 seen (p ∷ ps) zero h e = rw e refl
-seen (p ∷ ps) (suc i) h e = rw (seen ps i (le_of_suc-le-suc h) e) (or_right (is_some p.roughness))
+seen (p ∷ ps) (suc i) h e = rw (seen ps i (le_of_suc-le-suc h) e) (or-true (is_some p.roughness))
 
 -- so where none is seen, each part's roughness is the settings'
 not_own : (ps : List Part) (i : ℕ) (k : Float) → i < length ps → any_own ps ≡ false → roughness_of (part_at ps i).roughness k ≡ k

@@ -18,7 +18,7 @@ use Rattle.sheet_data.specs.declared.Sheet.{Sheet}
 use Rattle.sheet_data.specs.Layout.{most_parts, most_columns, needed}
 use Rattle.sheet_data.specs.Contents.{Contents, contents_of, blank, Fits}
 use Rattle.sheet_data.specs.Tests.{body_test, columns_test, settings_test, nozzle_test, part_test, sheet_test}
-use Rattle.drag_sheet.specs.Calls.{Answer, Call, replace, insert, remove, set_column, ignite, burnout, arguments_test, tries, scope, after, call_test, sheet_with, answered, Called, Opened}
+use Rattle.drag_sheet.specs.Calls.{Answer, Call, replace, insert, remove, set_column, ignite, burnout, applied, arguments_test, tries, scope, after, call_test, sheet_with, left_by, answered, Called, Opened}
 use Rattle.drag_sheet.specs.Build.{trial}
 use Rattle.drag_sheet.specs.Writing.{chosen, whole, overwritten, AllWritten}
 
@@ -41,16 +41,7 @@ sheet_fits sheet cells e =
     let b = both_passed (unless (ltb most_parts sheet.design.count) DesignFull) _ n.second in
     record { columns = f.0; parts = ltb-false most_parts sheet.design.count (unless_passed _ DesignFull b.first); room = f.1 }
 
-pub record Facts (call : Call) (sheet : Sheet) (cells : ℕ) : Type 0 where
-  pub fits : Fits sheet cells
-  pub arguments : arguments_test call sheet.settings sheet.design.count ≡ Ok tt
-
-pub call_facts : (call : Call) (sheet : Sheet) (cells : ℕ) → call_test call sheet cells ≡ Ok tt → Facts call sheet cells
-call_facts call sheet cells e =
-    let a = both_passed (sheet_test (contents_of sheet) cells sheet.design.count) _ e in
-    record { fits = sheet_fits sheet cells a.first; arguments = a.second }
-
--- what a call's arguments are then
+-- what a call's arguments are where its own tests passed
 abbrev pub Bounds : Call → Settings → ℕ → Type 0
 Bounds (replace place p) s count = place < count
 Bounds (insert place p) s count = (place ≤ count) × (count < most_parts)
@@ -69,6 +60,32 @@ bounds (remove place) s count e = leb-false count place (unless_passed _ NoSuchP
 bounds (set_column k M R) s count e = leb-false s.count k (unless_passed _ NoSuchPlace (both_passed (unless (leb s.count k) NoSuchPlace) (flow_checked M R) e).first)
 bounds (ignite n) s count e = tt
 bounds burnout s count e = tt
+
+-- what a passed call's tests have shown
+pub record Facts (call : Call) (sheet : Sheet) (cells : ℕ) : Type 0 where
+  pub fits : Fits sheet cells
+  pub arguments : arguments_test call sheet.settings sheet.design.count ≡ Ok tt
+  pub within : Bounds call sheet.settings sheet.design.count
+
+pub call_facts : (call : Call) (sheet : Sheet) (cells : ℕ) → call_test call sheet cells ≡ Ok tt → Facts call sheet cells
+call_facts call sheet cells e =
+    let a = both_passed (sheet_test (contents_of sheet) cells sheet.design.count) _ e in
+    record { fits = sheet_fits sheet cells a.first; arguments = a.second; within = bounds call sheet.settings sheet.design.count a.second }
+
+-- no call changes how many columns there are
+pub same_width : (call : Call) (c : Contents) → (applied call c).settings.count ≡ c.settings.count
+same_width (replace place p) c = refl
+same_width (insert place p) c = refl
+same_width (remove place) c = refl
+same_width (set_column k M R) c = refl
+same_width (ignite n) c = refl
+same_width burnout c = refl
+
+-- so the sheet that is left fits, where it has few parts
+pub fits_left : (call : Call) {sheet left : Sheet} {cells : ℕ} → Facts call sheet cells → left ≡ left_by call sheet → left.design.count ≤ most_parts → Fits left cells
+fits_left call {sheet} f e few =
+    let w = ap (λ (s : Sheet). s.settings.count) e ∙ same_width call (contents_of sheet) in
+    record { columns = rw w f.fits.columns; parts = few; room = rw w f.fits.room }
 
 -- ---- the contract
 

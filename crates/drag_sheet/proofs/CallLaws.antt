@@ -24,7 +24,7 @@ use Rattle.drag_sheet.specs.Lists.{Arrays}
 use Rattle.drag_sheet.proofs.Verdicts.{never}
 use Rattle.drag_sheet.proofs.Slots.{inserted_long, removed_long}
 use Rattle.drag_sheet.proofs.Overwritten.{Inside, Keeps, keeps, other_rows}
-use Rattle.drag_sheet.proofs.Answers.{Facts, call_facts, Bounds, bounds}
+use Rattle.drag_sheet.proofs.Answers.{Facts, call_facts, Bounds, same_width}
 use Rattle.drag_sheet.proofs.Duties.{scope_inside, body_not_part}
 
 -- accepted, with the cells that the call leaves; or refused, with the sheet and the cells that were given
@@ -75,17 +75,9 @@ shown call sheet xs slots p =
       facts = f;
       tried = b.second;
       long = n;
-      within = subst (Bounds call sheet.settings) (sym n) (bounds call sheet.settings sheet.design.count f.arguments);
+      within = subst (Bounds call sheet.settings) (sym n) f.within;
       few = omega (arith, f.fits.parts);
     }
-
-same_width : (call : Call) (c : Contents) → (applied call c).settings.count ≡ c.settings.count
-same_width (replace place p) c = refl
-same_width (insert place p) c = refl
-same_width (remove place) c = refl
-same_width (set_column k M R) c = refl
-same_width (ignite n) c = refl
-same_width burnout c = refl
 
 -- an accepted call keeps the number of columns, the number of cells, and what lies past the rows
 pub record Left (call : Call) (sheet : Sheet) (xs : List Float) : Type 0 where

@@ -10,7 +10,7 @@ module _ {A B : Type 0} where
     pub done : (d : A) (e : B) (k : ℕ) → k < i → made (get_or old k d) (get_or list k e) (get_or new k d)
     pub left : (d : A) (k : ℕ) → i ≤ k → get_or new k d ≡ get_or old k d
 
-  -- cells that can be made in one way alone are a table
+  -- cells that can be made in one way alone are a table. The functions over `each_cell` cite it in an answer: named in the attribute it closes none of them
   pub each_tab : {made : A → B → A → Type 0} {list : List B} {old new : List A} {f : ℕ → A} (d : A) (e : B) → ((k : ℕ) (r : A) → made (get_or old k d) (get_or list k e) r → r ≡ f k)
       → EachMade made list old new → new ≡ tab (length old) f
   each_tab {old = old} {new = new} {f = f} d e only E = tab_of d (length old) f new E.long (λ k h. only k _ (E.at d e k h))

@@ -10,6 +10,7 @@ use native.Mathlib.Decide.{dec_lt}
 use native.Mathlib.Omega.{arith}
 use lib.ListN.{length, take, drop, set, get_or, replicate, length-replicate, replicate-append-replicate, length-drop, length-set}
 use lib.Seq.{take_all, drop_at, length-take-le}
+use Rattle.std.proofs.lemmas.List.{take-replicate}
 use lib.Ieee.{Float, nan}
 use Rattle.elementary.specs.Constants.{0·0}
 use Rattle.aero_error.specs.CheckLaws.{up_none, up_more}
@@ -23,7 +24,6 @@ use Rattle.drag_sheet.specs.Build.{prepared_at, row_test_from, row_from, row_tes
 use Rattle.drag_sheet.specs.Writing.{Filled, rows, totalled, overwritten}
 use Rattle.drag_sheet.specs.Calls.{body_rows}
 use Rattle.drag_sheet.proofs.Verdicts.{filled_same}
-use Rattle.drag_sheet.proofs.Taken.{zeros}
 use Rattle.drag_sheet.proofs.RowKinds.{part_row, no_part}
 use Rattle.drag_sheet.proofs.Overwritten.{Holds, holds_build, rows_hold, keeps}
 
@@ -102,7 +102,7 @@ zero_row r n C h =
     let m = n * C - r * C in
     let q : n * C ≡ r * C + m = omega arith in
     let e : replicate (n * C) 0·0 ≡ replicate (r * C) 0·0 ++ replicate m 0·0 = ap (λ k. replicate k 0·0) q ∙ sym (replicate-append-replicate (r * C) m 0·0) in
-    rw (e, drop_at (replicate (r * C) 0·0) (replicate m 0·0) (r * C) (length-replicate (r * C) 0·0)) (zeros 0·0 C m (omega arith))
+    rw (e, drop_at (replicate (r * C) 0·0) (replicate m 0·0) (r * C) (length-replicate (r * C) 0·0)) (take-replicate C m 0·0 (omega arith))
 
 pub from_nothing : (c : Contents) (count : ℕ) (xs ys zs : List Float) → length c.parts ≡ count → count ≤ most_parts → xs ≡ replicate (needed c.settings.count) 0·0
     → ys ≡ rows_written c.settings.count (row_of c) (from 0 count) xs → zs ≡ totalled c.settings.count (rows_written c.settings.count (row_of c) body_rows ys) → zs ≡ build c

@@ -23,7 +23,7 @@ use Rattle.drag_sheet.specs.Writing.{whole, overwritten}
 use Rattle.drag_sheet.specs.Model.{opened_model, model_decision, moved, model_after, model_decisions}
 use Rattle.drag_sheet.specs.Lists.{Sequence, stop, go, Arrays, Matches, Agrees, FromOpen}
 use Rattle.drag_sheet.proofs.Overwritten.{Holds, holds_build, whole_holds, keeps}
-use Rattle.drag_sheet.proofs.Answers.{settings_facts, call_facts, Bounds, bounds, contents_with, blank_tried}
+use Rattle.drag_sheet.proofs.Answers.{settings_facts, call_facts, Bounds, contents_with, blank_tried}
 use Rattle.drag_sheet.proofs.Duties.{narrow, call_holds}
 use Rattle.drag_sheet.proofs.CallLaws.{Ended, accepted, refusal, ended, shown, left, parts_few}
 
@@ -55,8 +55,7 @@ same_decision lent C sheet xs call k =
     by (Err e) p = rw p
     by (Ok _) p =
         let f = call_facts call sheet (length xs) p in
-        let b = bounds call sheet.settings sheet.design.count f.arguments in
-        rw p (narrow call (contents_of sheet) (subst (Bounds call sheet.settings) (sym (parts_long lent C sheet xs k)) b) k.tried)
+        rw p (narrow call (contents_of sheet) (subst (Bounds call sheet.settings) (sym (parts_long lent C sheet xs k)) f.within) k.tried)
 
 arrays_after : (call : Call) (sheet : Sheet) → Arrays sheet → length (after call sheet).parts ≤ most_parts → Arrays (sheet_with (after call sheet) sheet)
 arrays_after call sheet z few = record { machs = machs call; reynolds = reynolds call; slots = slots }

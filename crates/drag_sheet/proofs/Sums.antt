@@ -1,14 +1,15 @@
 -- Sums from +0 by index.
 use mathlib.Core.Path.{◌≡◌, refl, sym, ap, ◌∙◌}
 use mathlib.Core.List.{List}
-use Prim.Native.Nat.{ℕ, zero, suc, ◌+◌, ◌-◌, ◌*◌, ◌<◌}
+use Prim.Native.Nat.{ℕ, zero, suc, ◌+◌, ◌<◌}
 use native.Mathlib.Numerals.{add-one}
 use native.Mathlib.Omega.{arith}
-use lib.ListN.{length, get_or, take, drop}
+use lib.ListN.{length, get_or}
 use lib.Ieee.{Float, nan}
 use Rattle.elementary.specs.Arithmetic.{◌⊕◌}
 use Rattle.elementary.specs.Constants.{0·0}
 use Rattle.sheet_data.specs.Tables.{tab, tab_long, tab_at, tab_same}
+use Rattle.sheet_data.specs.Rows.{row_at}
 use Rattle.drag_sheet.specs.Formulas.{sum_to}
 use Rattle.drag_sheet.specs.Writing.{there}
 
@@ -57,8 +58,11 @@ four_terms_more C n f sum out w x y z s h same =
     rw (s, tab_at C (λ k. sum_to n (f k)) nan k m, e.0, e.1, e.2, e.3) (sym (sum_four n (f k)))))
 
 -- a row that is there added to a sum
-pub add_there : (C r at : ℕ) (xs sum out : List Float) (g : ℕ → Float) → at ≡ r * C → sum ≡ tab C g
-    → out ≡ tab (length sum) (λ k. get_or sum k nan ⊕ get_or (take (at + C - at) (drop at xs)) k nan) → out ≡ tab C (λ k. g k ⊕ there C xs r k)
-add_there C r at xs sum out g e s h =
-    let w : at + C - at ≡ C = omega arith in
-    row_added C sum out g (λ k. get_or (take (at + C - at) (drop at xs)) k nan) (λ k. there C xs r k) s h (λ k m. rw (w, e))
+pub add_there : (C r : ℕ) (xs row sum out : List Float) (g : ℕ → Float) → row ≡ row_at C xs r → sum ≡ tab C g → out ≡ tab (length sum) (λ k. get_or sum k nan ⊕ get_or row k nan)
+    → out ≡ tab C (λ k. g k ⊕ there C xs r k)
+add_there C r xs row sum out g e s h = row_added C sum out g (λ k. get_or row k nan) (λ k. there C xs r k) s h (λ k m. rw e)
+
+-- and one term more of sums of rows that are there
+pub there_more : (C n : ℕ) (xs row sum out : List Float) → row ≡ row_at C xs n → sum ≡ tab C (λ k. sum_to n (λ i. there C xs i k)) → out ≡ tab (length sum) (λ k. get_or sum k nan ⊕ get_or row k nan)
+    → out ≡ tab C (λ k. sum_to (n + 1) (λ i. there C xs i k))
+there_more C n xs row sum out e s h = terms_more C n (λ k i. there C xs i k) sum out (λ k. get_or row k nan) s h (λ k m. rw e)

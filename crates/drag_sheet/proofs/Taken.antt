@@ -1,13 +1,14 @@
 -- The functions that fill a row are lent the columns that count: a row over them is the row of the settings.
 use Rattle.std.specs.Prelude.{Ok}
 use Rattle.aero_error.specs.Checks.{up_to, Check}
-use mathlib.Core.Path.{◌≡◌, refl, sym, ap}
-use mathlib.Core.List.{List, ◌∷◌}
+use mathlib.Core.Path.{◌≡◌, ap}
+use mathlib.Core.List.{List}
 use Prim.Native.Nat.{ℕ, ◌≤◌}
 use lib.ListN.{length, take, get_or, replicate}
+use Rattle.std.proofs.lemmas.List.{take-replicate}
+use Rattle.elementary.specs.Constants.{0·0}
+use Rattle.sheet_data.specs.Layout.{most_columns}
 use lib.Seq.{length-take-le, get_or-take}
-use native.Mathlib.Nat.{not-suc-le-zero, le_of_suc-le-suc}
-use Prim.Native.Nat.{zero, suc}
 use lib.Ieee.{Float, nan}
 use Rattle.aero_error.specs.CheckLaws.{up_same}
 use Rattle.sheet_data.specs.declared.Settings.{Settings}
@@ -19,13 +20,9 @@ use Rattle.drag_sheet.specs.Build.{row_test_from, row_from}
 use Rattle.drag_sheet.specs.Writing.{Filled}
 use Rattle.drag_sheet.proofs.Verdicts.{filled_same}
 
-pub prefix_long : {A : Type 0} (n : ℕ) (xs : List A) → n ≤ length xs → n ≡ length (take n xs)
-prefix_long n xs h = sym (length-take-le n xs h)
-
-pub zeros : {A : Type 0} (v : A) (n m : ℕ) → n ≤ m → take n (replicate m v) ≡ replicate n v
-zeros v zero m h = refl
-zeros v (suc n) zero h = absurd (not-suc-le-zero h)
-zeros v (suc n) (suc m) h = ap (λ r. v ∷ r) (zeros v n m (le_of_suc-le-suc h))
+-- so many of the +0 that a row is added up from
+pub zero_row : (n : ℕ) → n ≤ most_columns → take n (replicate most_columns 0·0) ≡ replicate n 0·0
+zero_row n h = take-replicate n most_columns 0·0 h
 
 pub taken_row : (row : Row) (s : Settings) → s.count ≤ length s.machs → {r : Check} {out : List Float}
     → Filled (up_to (length (take s.count s.machs)) (λ k. made_test (cell_of row (get_or (take s.count s.machs) k nan)))) (tab (length (take s.count s.machs)) (λ k. value_of (cell_of row (get_or (take s.count s.machs) k nan)))) r out

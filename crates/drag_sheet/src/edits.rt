@@ -61,11 +61,9 @@ pub(crate) fn one_column(settings: Settings, mach: f64, reynolds: f64) -> Settin
     ensures { result ≡ one_column settings mach reynolds }
 {
     Settings {
-        reference_diameter: settings.reference_diameter,
-        roughness: settings.roughness,
-        body_fineness: settings.body_fineness,
         count: 1,
         machs: [mach; COLUMNS],
         reynolds: [reynolds; COLUMNS],
+        ..settings
     }
 }

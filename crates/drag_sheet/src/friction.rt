@@ -35,7 +35,7 @@ fn flows_of(settings: Settings) -> [Result<Flow, AeroError>; COLUMNS]
         factor: 0.0,
     });
     let mut flows = [still; COLUMNS];
-    // By index, as the columns are tested: over a zip the proof has to follow the iterators.
+    // Tried over a zip: the proof didn't close. Of what is written through one nothing is known, and std has no lemma on a loop over one enumerated.
     for i in 0..settings.count {
         flows[i] = drag::flow_of(true, settings.reynolds[i], settings.machs[i]);
     }

@@ -90,6 +90,7 @@ fn fill_row(row: Row, machs: &[f64], out: &mut [f64]) -> Result<(), AeroError>
     requires { length machs.now ≡ length out.old }
     ensures { Filled (up_to (length machs.now) (λ k. made_test (cell_of row (get_or machs.now k nan)))) (tab (length machs.now) (λ k. value_of (cell_of row (get_or machs.now k nan)))) result out.new }
 {
+    // Tried over a zip: the proof didn't close. Of what is written through one nothing is known.
     for (i, mach) in machs.iter().enumerate() {
         out[i] = cell(row, *mach)?;
     }

@@ -1,6 +1,7 @@
 // The rows of a sheet over lent cells: where one begins, one written, the last rows written anew, all of them built from nothing, and a column.
-// The sheet and its cells stay two parameters, with `Fits` in each contract: Rattle has no ghost field beside a `&mut`.
-// So do a count of columns and the cells. A finish is a plain number below `finishes()`, as a row is below `rows()`.
+// The functions that write keep the sheet, or its count of columns, and the lent cells as parameters of their own, with `Fits` in each contract: a
+// struct of both would say it once, and each of its methods would have to ensure in exchange that the lent cells stay the same ones (`ghost_name`).
+// A finish is a plain number below `finishes()`, as a row is below `rows()`.
 ghost use Rattle.std.specs.Prelude.{◌≡◌, ◌+◌, ◌*◌, ◌≤◌, ◌<◌, length, get_or, replicate};
 ghost use Rattle.std.specs.Float.{nan};
 ghost use Rattle.elementary.specs.Arithmetic.{◌⊕◌};
@@ -22,6 +23,7 @@ use sheet_data::Sheet;
 use sheet_data::layout::{
     CELLS, COLUMNS, PARTS, base_row, finishes, friction_row, rows, total_row,
 };
+use sheet_data::rows::Rows;
 
 // Where a row begins.
 pub(crate) fn offset(row: usize, count: usize) -> usize
@@ -48,44 +50,44 @@ fn add_row(sum: &mut [f64], row: &[f64])
 }
 
 // Adds up the part rows, column by column, into `sum`, which holds +0.
-fn add_parts(count: usize, cells: &[f64], sum: &mut [f64])
-    requires { (count ≤ most_columns) × (needed count ≤ length cells.now) × (sum.old ≡ replicate count 0·0) }
-    ensures { sum.new ≡ tab count (λ k. sum_to most_parts (λ i. there count cells.now i k)) }
+fn add_parts(rows: Rows, sum: &mut [f64])
+    requires { sum.old ≡ replicate rows.columns 0·0 }
+    ensures { sum.new ≡ tab rows.entry.columns (λ k. sum_to most_parts (λ i. there rows.entry.columns rows.entry.cells.now i k)) }
 {
-    for row in 0usize..PARTS {
-        let at = offset(row, count);
-        let end = at + count;
-        add_row(sum, &cells[at..end]);
+    for place in 0usize..PARTS {
+        add_row(sum, rows.row(place));
     }
 }
 
 // The total row of a finish: the part rows, its friction row and the base row as they stand, added into `sum`, which holds +0.
-fn sum_rows(finish: usize, count: usize, cells: &[f64], sum: &mut [f64])
-    requires { (finish < finish_count) × (count ≤ most_columns) × (needed count ≤ length cells.now) × (sum.old ≡ replicate count 0·0) }
-    ensures { sum.new ≡ total_there count cells.now finish }
+#[tactic(auto, using(sheet_data::specs::Layout::finishes_few))]
+fn sum_rows(finish: usize, rows: Rows, sum: &mut [f64])
+    requires { (finish < finish_count) × (sum.old ≡ replicate rows.columns 0·0) }
+    ensures { sum.new ≡ total_there rows.entry.columns rows.entry.cells.now finish }
 {
-    let friction = offset(friction_row() + finish, count);
-    let base = offset(base_row(), count);
-    let friction_end = friction + count;
-    let base_end = base + count;
-    add_parts(count, cells, sum);
-    add_row(sum, &cells[friction..friction_end]);
-    add_row(sum, &cells[base..base_end]);
+    add_parts(rows, sum);
+    add_row(sum, rows.row(friction_row() + finish));
+    add_row(sum, rows.row(base_row()));
 }
 
 // Writes the total row of a finish.
+#[tactic(auto, using(crate::proofs::Taken::zero_row, sheet_data::specs::Layout::finishes_few))]
 fn write_total(finish: usize, count: usize, cells: &mut [f64])
     requires { (finish < finish_count) × (count ≤ most_columns) × (needed count ≤ length cells.old) }
     ensures { cells.new ≡ written (total_row finish_count finish * count) (total_there count cells.old finish) cells.old }
 {
     let mut sum = [0.0; COLUMNS];
+    let rows = Rows {
+        columns: count,
+        cells: &*cells,
+    };
+    sum_rows(finish, rows, &mut sum[..count]);
     let at = offset(total_row() + finish, count);
-    sum_rows(finish, count, cells, &mut sum[..count]);
     write_row(at, &sum[..count], cells);
 }
 
-// Writes the total rows. They add the cells that are there. Alike with `write_frictions` but for the row: a loop that takes the writing of a row as a
-// closure would know nothing of the cells that it borrows.
+// Writes the total rows. They add the cells that are there. Alike with `write_frictions` but for the row: two loops of one line, and one loop over a
+// closure would be no shorter.
 fn write_totals(count: usize, cells: &mut [f64])
     requires { (count ≤ most_columns) × (needed count ≤ length cells.old) }
     ensures { cells.new ≡ totalled count cells.old }
@@ -96,6 +98,7 @@ fn write_totals(count: usize, cells: &mut [f64])
 }
 
 // Writes the friction row of a finish.
+#[tactic(auto, using(crate::proofs::Taken::zero_row, sheet_data::specs::Layout::finishes_few))]
 fn write_friction(sheet: Sheet, finish: usize, cells: &mut [f64])
     requires { Fits sheet (length cells.old) × (finish < finish_count) }
     ensures { cells.new ≡ written (friction_row finish * sheet.settings.count) (row_of (contents_of sheet) (friction_row finish)) cells.old }

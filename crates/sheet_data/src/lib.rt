@@ -1,7 +1,7 @@
 // What a sheet is (docs/REFERENCE.md, Sheet): settings, parts, design and sheet, their bounds, and the tests that a sheet given has
-// to pass. `layout` says where the cells lie. All go by value; an array has room for as many as there may be, and what stands past
-// the count is not looked at. A count stands beside its array, since C lends it as it is and there is no heap for a Vec;
-// Machs and Reynolds numbers are two arrays: rows, text and C take the Machs alone.
+// to pass. `layout` says where the cells lie, and `rows` reads them by row. All go by value; an array has room for as many as there
+// may be, and what stands past the count is not looked at. A count stands beside its array, since C lends it as it is and there is
+// no heap for a Vec; Machs and Reynolds numbers are two arrays: rows, text and C take the Machs alone.
 #![tactic(auto)]
 
 ghost use Rattle.std.specs.Prelude.{◌≡◌};
@@ -9,6 +9,7 @@ ghost use Rattle.sheet_data.specs.Contents.{empty_part, blank};
 
 pub mod checks;
 pub mod layout;
+pub mod rows;
 
 use layout::{COLUMNS, PARTS};
 use shapes::NoseShape;

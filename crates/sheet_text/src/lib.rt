@@ -3,9 +3,8 @@
 #![tactic(auto)]
 
 ghost use Rattle.std.specs.Prelude.{◌≡◌, ◌++◌, ◌+◌, ◌*◌, ◌≤◌, ◌<◌, length};
-ghost use Rattle.sheet_data.specs.Layout.{most_parts, most_columns, finishes, all_rows, needed};
+ghost use Rattle.sheet_data.specs.Layout.{most_parts, most_columns};
 ghost use Rattle.sheet_data.specs.Contents.{Fits};
-ghost use Rattle.sheet_data.specs.Rows.{row_at};
 ghost use Rattle.sheet_text.specs.Bytes.{Room, Prints};
 ghost use Rattle.sheet_text.specs.Text.{row_text, part_text, body_text_size, most_text, line_text, part_name, part_lines, body_text, sheet_text, refused_text, run_text, Printed, Answered};
 
@@ -14,6 +13,7 @@ mod text;
 use card_run::{Run, STREAM_BYTES};
 use sheet_data::Sheet;
 use sheet_data::layout::{CELLS, COLUMNS, PARTS, base_row, friction_row, total_row};
+use sheet_data::rows::Rows;
 use text::{DIGITS, Text};
 
 // The most bytes of the numbers of a line with its end, of a part's line, and of the lines friction, base and total.
@@ -25,26 +25,6 @@ const BODY_TEXT: usize = 8 + 4 + 5 + 3 * ROW_TEXT;
 
 // No text has more bytes: the line mach, a line for each part, and the lines of the whole body.
 pub const MOST_TEXT: usize = 4 + ROW_TEXT + PARTS * PART_TEXT + BODY_TEXT;
-
-// The cells of a sheet, row after row. A sheet may have no columns, so its rows are no chunks.
-#[derive(Clone, Copy, Drop)]
-struct Rows<'a> {
-    columns: usize,
-    cells: &'a [f64],
-    ghost few: { columns ≤ most_columns },
-    ghost there: { needed columns ≤ length cells.now },
-}
-
-impl<'a> Rows<'a> {
-    fn row(self, row: usize) -> &'a [f64]
-        requires { row < all_rows finishes }
-        ensures { (result.now ≡ row_at self.entry.columns self.entry.cells.now row) × (length result.now ≤ most_columns) }
-    {
-        let from = row * self.columns;
-        let end = from + self.columns;
-        &self.cells[from..end]
-    }
-}
 
 impl Text<'_> {
     // The line of the part at a place.

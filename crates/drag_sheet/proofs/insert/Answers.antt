@@ -1,22 +1,14 @@
 -- `insert` meets its contract: the sheet that it leaves, all rows of it written.
-use Rattle.std.proofs.Common.{refl, sym, ap, ◌∙◌, arith, length}
+use Rattle.std.proofs.Common.{refl, sym, ◌∙◌, arith, length}
 use Rattle.aero_error.proofs.HandedOn.{handed_on}
-use Rattle.sheet_data.specs.declared.Sheet.{Sheet}
 use Rattle.drag_sheet.specs.Calls.{insert, tries}
-use Rattle.drag_sheet.proofs.Answers.{Facts, call_facts, bounds, whole_refused, whole_accepted}
+use Rattle.drag_sheet.proofs.Answers.{call_facts, fits_left, whole_refused, whole_accepted}
 use Rattle.drag_sheet.proofs.insert.Goals as goal
-use Rattle.drag_sheet.proofs.insert.Goals.{In_ok-check_insert}
-
--- what the tests have shown
-facts : (c : In_ok-check_insert) → Facts (insert c.args.place c.args.part) c.args.sheet.now (length c.args.cells.now)
-facts c = call_facts (insert c.args.place c.args.part) c.args.sheet.now (length c.args.cells.now) (sym c.check_insert.ensures ∙ c.in_ok-check_insert.was)
 
 pub write_all-requires : goal.write_all-requires
 write_all-requires c =
-    let f = facts (goal.at.write_all-requires c).In_ok-check_insert in
-    let b = bounds (insert c.args.place c.args.part) c.args.sheet.now.settings c.args.sheet.now.design.count f.arguments in
-    let same = ap (λ (s : Sheet). s.settings.count) c.inserted-left.ensures.left in
-    record { columns = omega (arith, f.fits.columns); parts = omega (arith, c.inserted-left.ensures.count, b.1); room = rw same f.fits.room }
+    let f = call_facts (insert c.args.place c.args.part) c.args.sheet.now (length c.args.cells.now) (sym c.check_insert.ensures ∙ c.in_ok-check_insert.was) in
+    fits_left _ f c.inserted-left.ensures.left (omega (arith, c.inserted-left.ensures.count, f.within.1))
 
 pub returns-in_err-write_all : goal.returns-in_err-write_all
 unfolding tries

@@ -1,28 +1,22 @@
 -- `remove` meets its contract: the sheet that it leaves, all rows of it written.
-use Rattle.std.proofs.Common.{refl, sym, ap, ◌∙◌, arith, length}
+use Rattle.std.proofs.Common.{refl, sym, ◌∙◌, arith, length}
 use Rattle.aero_error.proofs.HandedOn.{handed_on}
-use Rattle.sheet_data.specs.declared.Sheet.{Sheet}
 use Rattle.drag_sheet.specs.Calls.{remove, tries}
-use Rattle.drag_sheet.proofs.Answers.{Facts, call_facts, bounds, whole_refused, whole_accepted}
+use Rattle.drag_sheet.proofs.Answers.{Facts, call_facts, fits_left, whole_refused, whole_accepted}
 use Rattle.drag_sheet.proofs.remove.Goals as goal
 use Rattle.drag_sheet.proofs.remove.Goals.{In_ok-check_remove}
 
 -- what the tests have shown
 facts : (c : In_ok-check_remove) → Facts (remove c.args.place) c.args.sheet.now (length c.args.cells.now)
-facts c = call_facts (remove c.args.place) c.args.sheet.now (length c.args.cells.now) (sym c.check_remove.ensures ∙ c.in_ok-check_remove.was)
+facts c = call_facts _ _ _ (sym c.check_remove.ensures ∙ c.in_ok-check_remove.was)
 
 pub removed-left-requires : goal.removed-left-requires
-removed-left-requires c =
-    let f = facts (goal.at.removed-left-requires c).In_ok-check_remove in
-    let b = bounds (remove c.args.place) c.args.sheet.now.settings c.args.sheet.now.design.count f.arguments in
-    (b, f.fits.parts)
+removed-left-requires c = let f = facts (goal.at.removed-left-requires c).In_ok-check_remove in (f.within, f.fits.parts)
 
 pub write_all-requires : goal.write_all-requires
 write_all-requires c =
     let f = facts (goal.at.write_all-requires c).In_ok-check_remove in
-    let b = bounds (remove c.args.place) c.args.sheet.now.settings c.args.sheet.now.design.count f.arguments in
-    let same = ap (λ (s : Sheet). s.settings.count) c.removed-left.ensures.left in
-    record { columns = omega (arith, f.fits.columns); parts = omega (arith, c.removed-left.ensures.count, f.fits.parts); room = rw same f.fits.room }
+    fits_left _ f c.removed-left.ensures.left (omega (arith, c.removed-left.ensures.count, f.fits.parts))
 
 pub returns-in_err-write_all : goal.returns-in_err-write_all
 unfolding tries

@@ -3,12 +3,11 @@ use mathlib.Core.Path.{◌≡◌, sym, ◌∙◌}
 use Prim.Native.Nat.{◌+◌}
 use mathlib.Core.List.{◌++◌}
 use lib.ListN.{length, take, drop, replicate}
-use lib.Seq.{take_at}
+use lib.Seq.{take_at, length-take-le}
 use borrow.Author.Tests.{lt-ltb, le-ltb}
 use Rattle.elementary.specs.Constants.{0·0}
 use Rattle.sheet_data.specs.Layout.{most_columns}
 use Rattle.sheet_data.specs.Contents.{contents_of, parts_of}
-use Rattle.drag_sheet.proofs.Taken.{prefix_long}
 use Rattle.drag_sheet.proofs.Changed.{parts_long, own_steps, pair_rows}
 use Rattle.drag_sheet.proofs.write_changed.Goals as goal
 use Rattle.drag_sheet.proofs.write_changed.Goals.{After-row_at, Start}
@@ -19,7 +18,7 @@ long s = parts_long s.args.sheet (s.well_formed.0.1.1.1.0.1.1.1.0.1.0.1) s.requi
 
 -- its own row has a cell for each column
 own_long : (c : After-row_at) → length c.row_at.new.out ≡ c.args.sheet.settings.count
-own_long c = c.row_at.auto.out ∙ sym (prefix_long _ (replicate most_columns 0·0) c.requires.0.columns)
+own_long c = c.row_at.auto.out ∙ length-take-le _ (replicate most_columns 0·0) c.requires.0.columns
 
 pub returns-then-place-sheet : goal.returns-then-place-sheet
 returns-then-place-sheet c =

@@ -1,11 +1,10 @@
 -- `write_two` meets its contract: the next row is built first, and then both are written.
 use mathlib.Core.Path.{◌≡◌, sym, ◌∙◌}
 use lib.ListN.{length, drop, replicate}
-use lib.Seq.{take_at}
+use lib.Seq.{take_at, length-take-le}
 use Rattle.elementary.specs.Constants.{0·0}
 use Rattle.sheet_data.specs.Layout.{most_columns}
 use Rattle.sheet_data.specs.Contents.{contents_of}
-use Rattle.drag_sheet.proofs.Taken.{prefix_long}
 use Rattle.drag_sheet.proofs.Verdicts.{chosen_passed}
 use Rattle.drag_sheet.proofs.Changed.{next_steps}
 use Rattle.drag_sheet.proofs.write_two.Goals as goal
@@ -13,7 +12,7 @@ use Rattle.drag_sheet.proofs.write_two.Goals.{After-row_at}
 
 -- the next row has a cell for each column
 next_long : (c : After-row_at) → length c.row_at.new.out ≡ c.args.sheet.settings.count
-next_long c = c.row_at.auto.out ∙ sym (prefix_long _ (replicate most_columns 0·0) c.requires.0.columns)
+next_long c = c.row_at.auto.out ∙ length-take-le _ (replicate most_columns 0·0) c.requires.0.columns
 
 pub returns : goal.returns
 returns c =

@@ -1,13 +1,12 @@
 -- `sum_common` meets its contract: the row at the settings' roughness, added for each part, is the row of the formula.
-use mathlib.Core.Path.{◌≡◌, sym, ap, ◌∙◌}
+use mathlib.Core.Path.{◌≡◌, ap, ◌∙◌}
 use native.Mathlib.Omega.{arith}
 use lib.ListN.{length}
-use lib.Seq.{take_at}
+use lib.Seq.{take_at, length-take-le}
 use Rattle.sheet_data.specs.Layout.{most_columns}
 use Rattle.sheet_data.specs.Contents.{contents_of}
 use Rattle.sheet_data.specs.Tables.{tab_long}
 use Rattle.drag_sheet.specs.Formulas.{value_of}
-use Rattle.drag_sheet.proofs.Taken.{prefix_long}
 use Rattle.drag_sheet.proofs.AddedUp.{once_filled, common_added}
 use Rattle.drag_sheet.proofs.friction.sum_common.Goals as goal
 use Rattle.drag_sheet.proofs.friction.sum_common.Goals.{After-fill_once, Start}
@@ -23,7 +22,7 @@ long s = record { machs = s.well_formed.0.1.1.0.1.1.1.1.1.1.0.1.0.1; reynolds = 
 -- the row at the settings' roughness has a cell for each column
 fill_long : (c : After-fill_once) → length c.fill_once.new.cells ≡ c.args.sheet.settings.count
 fill_long c =
-    ap length c.fill_once.ensures ∙ tab_long _ _ ∙ sym (prefix_long c.args.sheet.settings.count c.args.sheet.settings.machs (omega (arith, (long (goal.at.After-fill_once c).Start).machs)))
+    ap length c.fill_once.ensures ∙ tab_long _ _ ∙ length-take-le c.args.sheet.settings.count c.args.sheet.settings.machs (omega (arith, (long (goal.at.After-fill_once c).Start).machs))
 
 pub returns : goal.returns
 returns c =
@@ -32,4 +31,4 @@ returns c =
     ∙ rw (take_at c.fill_once.new.cells _ S.count (fill_long (goal.at.returns c).After-fill_once))
     (common_added (contents_of c.args.sheet) _ c.requires.1
     (c.fill_once.ensures
-    ∙ rw (← prefix_long S.count S.machs (omega (arith, (long (goal.at.returns c).Start).machs))) (once_filled S _ _ c.wall_of-wall.ensures (c.unwrap_or-form.ensures ∙ ap value_of c.body_friction_form_factor.ensures))))
+    ∙ rw (length-take-le S.count S.machs (omega (arith, (long (goal.at.returns c).Start).machs))) (once_filled S _ _ c.wall_of-wall.ensures (c.unwrap_or-form.ensures ∙ ap value_of c.body_friction_form_factor.ensures))))

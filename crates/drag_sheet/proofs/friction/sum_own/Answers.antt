@@ -1,14 +1,13 @@
 -- `sum_own` meets its contract: what it has worked out, added up, is the row of the formula.
-use mathlib.Core.Path.{◌≡◌, sym, ap, ◌∙◌}
+use mathlib.Core.Path.{◌≡◌, ap, ◌∙◌}
 use native.Mathlib.Omega.{arith}
 use lib.ListN.{length, replicate}
-use lib.Seq.{take_at}
+use lib.Seq.{take_at, length-take-le}
 use Rattle.elementary.specs.Constants.{0·0}
 use Rattle.sheet_data.specs.Contents.{contents_of}
 use Rattle.sheet_data.specs.Layout.{most_columns}
 use Rattle.sheet_data.specs.Tables.{tab_long}
 use Rattle.drag_sheet.specs.Formulas.{value_of}
-use Rattle.drag_sheet.proofs.Taken.{prefix_long}
 use Rattle.drag_sheet.proofs.AddedUp.{own_added, flows_taken}
 use Rattle.drag_sheet.proofs.friction.sum_own.Goals as goal
 use Rattle.drag_sheet.proofs.friction.sum_own.Goals.{After-fill_on, Start}
@@ -16,11 +15,11 @@ use Rattle.drag_sheet.proofs.friction.sum_own.Goals.{After-fill_on, Start}
 -- the row at the settings' roughness has a cell for each column
 fill_long : (c : After-fill_on) → length c.fill_on.new.out ≡ c.args.sheet.settings.count
 fill_long c =
-    ap length c.fill_on.ensures ∙ tab_long _ _ ∙ sym (prefix_long c.args.sheet.settings.count (replicate most_columns 0·0) (omega arith))
+    ap length c.fill_on.ensures ∙ tab_long _ _ ∙ length-take-le c.args.sheet.settings.count (replicate most_columns 0·0) (omega arith)
 
 pub returns : goal.returns
 returns c =
     c.add_by_place.ensures
     ∙ rw (take_at c.fill_on.new.out _ c.args.sheet.settings.count (fill_long (goal.at.returns c).After-fill_on))
     (own_added (contents_of c.args.sheet) _ _ _ (c.unwrap_or-form.ensures ∙ ap value_of c.body_friction_form_factor.ensures) (flows_taken c.args.sheet.settings c.flows_of-all.result c.flows_of-all.ensures)
-    (c.fill_on.ensures ∙ rw (← prefix_long c.args.sheet.settings.count (replicate most_columns 0·0) (omega arith), c.wall_of.ensures)))
+    (c.fill_on.ensures ∙ rw (length-take-le c.args.sheet.settings.count (replicate most_columns 0·0) (omega arith), c.wall_of.ensures)))

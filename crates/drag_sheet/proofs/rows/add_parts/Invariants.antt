@@ -5,5 +5,5 @@ use Rattle.drag_sheet.specs.Formulas.{sum_to}
 use Rattle.drag_sheet.specs.Writing.{there}
 use Rattle.drag_sheet.proofs.rows.add_parts.Given as goal
 
-abbrev pub invariant-loop-row : goal.invariant-loop-row
-invariant-loop-row l = l.sum ≡ tab l.count (λ k. sum_to l.row (λ i. there l.count l.cells i k))
+abbrev pub invariant-loop-place : goal.invariant-loop-place
+invariant-loop-place l = l.sum ≡ tab l.rows.columns (λ k. sum_to l.place (λ i. there l.rows.columns l.rows.cells.now i k))

@@ -4,11 +4,11 @@ use Prim.Native.Nat.{◌*◌, ◌≤◌}
 use native.Mathlib.Nat.{le_of_eq}
 use native.Mathlib.Omega.{arith}
 use lib.ListN.{length, replicate, length-append}
-use lib.Seq.{take_at}
+use lib.Seq.{take_at, length-take-le}
+use Rattle.std.proofs.lemmas.List.{take-replicate}
 use Rattle.elementary.specs.Constants.{0·0}
 use Rattle.sheet_data.specs.Layout.{most_cells, needed, needed_few}
 use Rattle.drag_sheet.specs.Writing.{overwritten}
-use Rattle.drag_sheet.proofs.Taken.{prefix_long, zeros}
 use Rattle.drag_sheet.proofs.rows.write_all.Goals as goal
 use Rattle.drag_sheet.proofs.rows.write_all.Goals.{After-build_rows, After-rows}
 
@@ -22,11 +22,11 @@ small c = rw (all c) (needed_few _ c.requires.columns)
 pub build_rows-requires : goal.build_rows-requires
 build_rows-requires c =
     let n = needed_few _ c.requires.columns in
-    rw (all (goal.at.build_rows-requires c).After-rows) (record { columns = c.requires.columns; parts = c.requires.parts; room = le_of_eq (prefix_long _ (replicate most_cells 0·0) n) }, zeros 0·0 _ most_cells n)
+    rw (all (goal.at.build_rows-requires c).After-rows) (record { columns = c.requires.columns; parts = c.requires.parts; room = le_of_eq (sym (length-take-le _ (replicate most_cells 0·0) n)) }, take-replicate _ most_cells 0·0 n)
 
 -- what was built has as many cells as the sheet needs
 made_long : (c : After-build_rows) → c.rows.result * c.args.sheet.settings.count ≤ most_cells → length c.build_rows.new.cells ≡ c.rows.result * c.args.sheet.settings.count
-made_long c h = c.build_rows.auto.cells ∙ sym (prefix_long _ (replicate most_cells 0·0) h)
+made_long c h = c.build_rows.auto.cells ∙ length-take-le _ (replicate most_cells 0·0) h
 
 pub returns : goal.returns
 unfolding overwritten
@@ -39,10 +39,10 @@ pub slice_bounds-scratch-end : goal.slice_bounds-scratch-end
 slice_bounds-scratch-end c = omega (arith, small (goal.at.slice_bounds-scratch-end c).After-rows)
 
 pub slice_bounds-build_rows-end : goal.slice_bounds-build_rows-end
-slice_bounds-build_rows-end c = prefix_long _ (replicate most_cells 0·0) (small (goal.at.slice_bounds-build_rows-end c).After-rows)
+slice_bounds-build_rows-end c = sym (length-take-le _ (replicate most_cells 0·0) (small (goal.at.slice_bounds-build_rows-end c).After-rows))
 
 pub slice_bounds-scratch-end-2 : goal.slice_bounds-scratch-end-2
 slice_bounds-scratch-end-2 c = let l = made_long (goal.at.slice_bounds-scratch-end-2 c).After-build_rows (small (goal.at.slice_bounds-scratch-end-2 c).After-rows) in simp length-append (omega arith)
 
 pub slice_bounds-write_row-end : goal.slice_bounds-write_row-end
-slice_bounds-write_row-end c = let l = made_long (goal.at.slice_bounds-write_row-end c).After-build_rows (small (goal.at.slice_bounds-write_row-end c).After-rows) in prefix_long _ _ (simp length-append (omega arith))
+slice_bounds-write_row-end c = let l = made_long (goal.at.slice_bounds-write_row-end c).After-build_rows (small (goal.at.slice_bounds-write_row-end c).After-rows) in sym (length-take-le _ _ (simp length-append (omega arith)))

@@ -11,6 +11,6 @@ loop-place-init c = (omega arith, prints_none _ (omega (arith, c.requires.1)))
 pub loop-place-preserved : goal.loop-place-preserved
 loop-place-preserved c =
     let l = c.loop-place in
-    let p = rw c.row.ensures.0 at c.part.ensures in
-    let k = part_long l.place c.row.result.now c.row.ensures.1 in
+    let p = rw (c.row.ensures.cells (omega arith)) at c.part.ensures in
+    let k = part_long l.place c.row.result.now (omega arith) in
     (omega (arith, l.invariant.0, c.part.ensures.place, k), rw parts_more (prints_then l.invariant.1 p))
