@@ -19,7 +19,7 @@ use Rattle.sheet_data.specs.Tests.{settings_test}
 use Rattle.drag_sheet.specs.Calls.{Answer, Call, insert, tries, after, call_test, decision, answered, Called, Opened}
 use Rattle.drag_sheet.specs.Writing.{chosen, whole, overwritten}
 use Rattle.drag_sheet.proofs.Verdicts.{never}
-use Rattle.drag_sheet.proofs.Answers.{settings_facts, call_facts, bounds}
+use Rattle.drag_sheet.proofs.Answers.{settings_facts, call_facts}
 use Rattle.cards.specs.Cards.{settings_at}
 use Rattle.card_run.specs.declared.Run.{Run}
 use Rattle.card_run.specs.Run.{FirstCard, first_read, Ran, stopped_at, first_card, stream_of, last_place, insert_last, sheet_after, cells_after, all_part_cards, Stopped}

@@ -104,6 +104,7 @@ fn fill(curve: PressureDragCurve, machs: &[f64], out: &mut [u64])
     requires { length machs.now ≤ length out.old }
     ensures { out.new ≡ sets out.old 0 (spread (coefficient_word curve) machs.now) }
 {
+    // The words by place: of what is written through a zip nothing is known.
     for (i, mach) in machs.iter().enumerate() {
         out[i] = coefficient_bits(curve, *mach);
     }

@@ -159,6 +159,7 @@ fn put_floats(floats: [f64; COLUMNS], words: &mut [u64; SHEET_WORDS], start: usi
     requires { start + most_columns ≤ sheet_word_count }
     ensures { words.new ≡ sets words.old start (spread float_words floats) }
 {
+    // By place, as in `fill`.
     for (i, float) in floats.iter().enumerate() {
         words[start + i] = elementary::to_bits(*float);
     }

@@ -1,5 +1,5 @@
-// A row of cells made anew, each from itself and what stands at its place in a list. The list is read by place: over a zip the proof
-// has to follow two iterators and the cells that they lend.
+// A row of cells made anew, each from itself and what stands at its place in a list. The list is read by place: of what is
+// written through a zip nothing is known.
 ghost use Rattle.std.specs.Prelude.{◌≡◌, length};
 ghost use Rattle.drag_sheet.specs.Writing.{EachMade};
 

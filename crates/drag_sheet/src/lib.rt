@@ -30,7 +30,8 @@ fn write_blank(settings: Settings, cells: &mut [f64]) -> Result<(), AeroError>
     rows::write_all(Sheet::blank(settings), cells)
 }
 
-// Opens a sheet with these settings and no parts, and writes all its rows. Refused, it is that sheet too, and the cells stay.
+// Opens a sheet with these settings and no parts, and writes all its rows. Refused, it is that sheet too, and the cells stay: what is promised of the sheet
+// holds either way, so it is a pair and no `Result`.
 pub fn open(settings: Settings, cells: &mut [f64]) -> (Sheet, Result<(), AeroError>)
     ensures { Opened settings cells.old (record { outcome = result.1; sheet = result.0 }) cells.new }
 {

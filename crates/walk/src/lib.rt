@@ -85,7 +85,7 @@ fn walk_along(table: &[StoredPoint], queries: &[f64], answers: &mut [f64]) -> us
         ahead: table,
         compared: 0,
     };
-    // The answers by place: a zip that lends them has no law of a turn in std.
+    // The answers by place: of what is written through a zip nothing is known.
     for (i, mach) in queries.iter().enumerate() {
         walker.advance(*mach);
         answers[i] = walker.value(*mach);
