@@ -73,7 +73,7 @@ pub fn cobalnis_nose_walk(
     }
 }
 
-// ---- curves
+// ---- curves, by their shapes' numbers, 6 being the step: C asks by a number
 
 fn curve_of(
     shape: u64,

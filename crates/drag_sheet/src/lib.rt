@@ -72,7 +72,8 @@ fn check_remove(sheet: Sheet, place: usize, cells: usize) -> Result<(), AeroErro
     unless(sheet.design.count <= place, Rule::NoSuchPlace)
 }
 
-// Removes the part at a place; the parts after it move down one. All rows are written.
+// Removes the part at a place; the parts after it move down one. All rows are written. As `insert` but for its test and its edit: a function over both
+// would be no shorter.
 pub fn remove(sheet: &mut Sheet, place: usize, cells: &mut [f64]) -> Result<(), AeroError>
     ensures { Called (remove_call place) sheet.old cells.old (record { outcome = result; sheet = sheet.new }) cells.new }
 {

@@ -7,7 +7,7 @@ ghost use Rattle.sheet_text.specs.Text.{number_text_size, row_text, number_text,
 // The hexadecimal digits of 64 bits.
 pub(crate) const DIGITS: usize = 64 / 4;
 
-// The lent bytes, and how many of them are printed. What room is left stands in each contract (`Room`): Rattle has no ghost field beside a `&mut`.
+// The lent bytes, and how many of them are printed. What room is left stands in each contract (`Room`), since each asks for another amount.
 #[derive(Drop)]
 pub(crate) struct Text<'a> {
     pub(crate) out: &'a mut [u8],
