@@ -47,8 +47,8 @@ fn write_haack() {
 }
 
 fn main() {
-    let quarter = f64::from_bits(0x3ff921fb54442d18);
-    let above = f64::from_bits(0x3ff921fb54442d19);
+    let quarter = elementary::from_bits(0x3ff921fb54442d18);
+    let above = elementary::from_bits(0x3ff921fb54442d19);
     write_line(
         b"joint angle 3ff921fb54442d18",
         joint_pressure_drag_coefficient(quarter),
