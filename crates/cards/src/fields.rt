@@ -39,6 +39,7 @@ fn number_at(s: &[u8], at: usize) -> f64
 }
 
 // The Machs and the Reynolds numbers of n pairs, each in an array for as many as there may be.
+#[inline(always)]
 #[tactic(auto, using(crate::proofs::Numbers::pair_filled), unfolding(crate::specs::Fields::numbers_at))]
 pub(crate) fn pairs_at(n: usize, s: &[u8], at: usize) -> ([f64; COLUMNS], [f64; COLUMNS])
     requires { (n ≤ most_columns) × (at + pair_bytes * n ≤ length s.now) }
@@ -48,6 +49,7 @@ pub(crate) fn pairs_at(n: usize, s: &[u8], at: usize) -> ([f64; COLUMNS], [f64; 
     let mut machs = [0.0; COLUMNS];
     let mut reynolds = [0.0; COLUMNS];
     let (pairs, _) = s[at..at + PAIR_BYTES * n].as_chunks::<PAIR_BYTES>();
+    // Both arrays by place: of what is written through a zip nothing is known.
     for (i, pair) in pairs.iter().enumerate() {
         machs[i] = number_at(pair, 0);
         reynolds[i] = number_at(pair, NUMBER_BYTES);

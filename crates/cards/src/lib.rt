@@ -85,6 +85,7 @@ impl Reader<'_> {
 
     // The columns, and with them the settings, once D, the roughness, B and the number of columns
     // are read.
+    #[inline(always)]
     #[tactic(auto, unfolding(crate::specs::Cards::columns_at))]
     fn columns(&mut self, d: f64, roughness: f64, b: f64, n: u8) -> Result<Settings, AeroError>
         ensures { Took (columns_at d roughness b n) self.old result self.new }
@@ -105,6 +106,7 @@ impl Reader<'_> {
     }
 
     // A settings card whose bit map is read.
+    #[inline(always)]
     #[tactic(auto, unfolding(crate::specs::Cards::settings_fields))]
     fn settings(&mut self, map: u8) -> Result<Settings, AeroError>
         ensures { Took (settings_fields map) self.old result self.new }
@@ -131,7 +133,8 @@ pub fn read_part(s: &[u8], at: usize) -> Result<(Part, usize), AeroError>
     Ok((part, reader.at))
 }
 
-// A settings card, and the position after it.
+// A settings card, and the position after it. Inlined with what it calls: handed on from answer to answer, the arrays make it take 1.7 times as long.
+#[inline(always)]
 #[tactic(auto, unfolding(crate::specs::Cards::settings_at))]
 pub fn read_settings(s: &[u8], at: usize) -> Result<(Settings, usize), AeroError>
     ensures { result ≡ settings_at s.now at }
