@@ -64,6 +64,8 @@ pub fn cobalnis_open(words: &mut [u64; SHEET_WORDS], cells: &mut [f64], bits: &m
     show(outcome, sheet, words, bits)
 }
 
+// The six below are alike but for the call: C asks for one function each, and what they share is `called`.
+
 pub fn cobalnis_insert(
     words: &mut [u64; SHEET_WORDS],
     place: usize,

@@ -159,7 +159,7 @@ fn put_floats(floats: [f64; COLUMNS], words: &mut [u64; SHEET_WORDS], start: usi
     requires { start + most_columns ≤ sheet_word_count }
     ensures { words.new ≡ sets words.old start (spread float_words floats) }
 {
-    // By place, as in `fill`.
+    // By place, as in `fill` (noses.rt).
     for (i, float) in floats.iter().enumerate() {
         words[start + i] = elementary::to_bits(*float);
     }
@@ -177,6 +177,7 @@ fn put_part(part: Part, words: &mut [u64; SHEET_WORDS], at: usize)
 fn put_parts(parts: [Part; PARTS], words: &mut [u64; SHEET_WORDS])
     ensures { words.new ≡ sets words.old first_part (spread part_words parts) }
 {
+    // By place, as above.
     for (i, part) in parts.iter().enumerate() {
         put_part(*part, words, FIRST_PART + PART_WORDS * i);
     }

@@ -34,7 +34,7 @@ fn base_ratio(d: f64, n: f64, reference_diameter: f64) -> f64
     }
 }
 
-// The base's share of the reference area.
+// The base's share of the reference area. That the parts are few stands in the contract, as in edits.rt: the count is C's.
 pub(crate) fn base_area(sheet: Sheet) -> f64
     requires { sheet.design.count ≤ most_parts }
     ensures { result ≡ base_area (contents_of sheet) }

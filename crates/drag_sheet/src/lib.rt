@@ -134,6 +134,8 @@ fn row_at(sheet: Sheet, place: usize, out: &mut [f64]) -> Result<(), AeroError>
     part::part_row(sheet.settings, fore, sheet.design.parts[place], out)
 }
 
+// In the two functions below the call has tested the place; the count is C's, so no type says it.
+
 // Writes a part's own row, which is built, and the next part's, and the friction, base and total rows; or nothing, where the next
 // part's row cannot be built.
 fn write_two(sheet: Sheet, place: usize, own: &[f64], cells: &mut [f64]) -> Result<(), AeroError>

@@ -161,6 +161,7 @@ fn part_rows(sheet: Sheet, cells: &mut [f64]) -> Result<(), AeroError>
     let design = sheet.design;
     let count = settings.count;
     let mut fore = 0.0;
+    // The rows by place: a sheet may have no columns, so they are no chunks.
     for (place, part) in design.parts[..design.count].iter().enumerate() {
         let at = offset(place, count);
         let end = at + count;
@@ -214,6 +215,7 @@ pub(crate) fn write_column(column: usize, count: usize, values: &[f64], cells: &
     requires { (column < count) × (count ≤ most_columns) × (needed count ≤ length cells.old) × (length values.now ≡ all_rows finish_count) }
     ensures { cells.new ≡ column_put column count values.now cells.old }
 {
+    // By place: of what is written through a zip nothing is known.
     for (row, value) in values.iter().enumerate() {
         let at = offset(row, count);
         cells[at + column] = *value;

@@ -1,6 +1,6 @@
 // The cycle: a curve asks its transonic method, the method may ask a reference, and a reference may be a whole cone curve, which asks its
 // own method again. Each call carries a depth number that falls; `DEPTH` is enough for every curve, so no answer depends on it. The number stays, and with
-// it what each call requires of it: it is among the forms that this port shows (docs/DECISIONS.md, 28).
+// it what each call requires of it: a falling depth is a rule of this port (docs/DECISIONS.md, 28).
 ghost use Rattle.std.specs.Prelude.{◌≡◌, ◌≤◌, suc};
 ghost use Rattle.nose_drag.specs.Forms.{sin_half_angle};
 ghost use Rattle.nose_drag.specs.Methods.{reference_at, method_at};
@@ -59,7 +59,8 @@ pub enum Transonic {
     },
 }
 
-// A nose's, shoulder's or step's pressure drag against Mach number, on its increase in area. A step and a bare front face have no shape.
+// A nose's, shoulder's or step's pressure drag against Mach number, on its increase in area. A step and a bare front face have no shape, and
+// fineness 0: the two stay apart, as in the original and in the definitions.
 #[derive(Clone, Copy, Debug, PartialEq)]
 pub struct PressureDragCurve {
     pub(crate) shape: Option<NoseShape>,

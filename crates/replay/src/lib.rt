@@ -118,7 +118,7 @@ pub fn replay_all<R: Replay>(list: &mut R)
 // ---- what is counted
 
 // How many lines agree of how many. A count stays at the largest u64 once it is there; no list is as long.
-#[derive(Clone, Copy)]
+#[derive(Clone, Copy, Debug, PartialEq, Eq)]
 pub struct Tally {
     pub agreed: u64,
     pub asked: u64,
@@ -157,7 +157,7 @@ pub const KINDS: usize = 32;
 pub const NO_KIND: u64 = KINDS as u64 - 1;
 
 // The lines of each kind, and of the whole list.
-#[derive(Clone, Copy)]
+#[derive(Clone, Copy, Debug, PartialEq, Eq)]
 pub struct Counts {
     pub kinds: [Tally; KINDS],
     pub all: Tally,

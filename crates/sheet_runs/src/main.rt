@@ -14,6 +14,7 @@ fn show(stream: &[u8]) {
 // The streams one after the other, as far as they are whole.
 fn show_all(streams: &[u8]) {
     let mut rest = streams;
+    // No `for`: how much is taken off is read from what is left.
     while let Some((size, after)) = rest.split_first_chunk() {
         let size = usize::from(u16::from_le_bytes(*size));
         let Some((stream, next)) = after.split_at_checked(size) else {

@@ -33,6 +33,7 @@ fn hex_digits(x: u64) -> [u8; DIGITS]
 {
     let mut out = [0; DIGITS];
     let mut rest = x;
+    // By place: tried over `iter_mut` in reverse, the proof didn't close.
     for n in (0..DIGITS).rev() {
         out[n] = hex_digit(rest % 16);
         rest /= 16;

@@ -70,7 +70,7 @@ fn holds(line: &[u8], cells: &[f64; ROOM]) -> bool {
 
 // ---- replaying
 
-// The queries, the cells, and what is counted so far.
+// The queries, the cells, and what is counted so far. Two arrays, since C is lent queries and cells apart.
 #[derive(Drop)]
 struct Walks {
     queries: [f64; ROOM],
