@@ -4,7 +4,8 @@
     streams.py write > stdin     the streams, each after its length in two bytes, low byte first
     streams.py check < stdout    compares the answers that were printed with the list
 
-An expected answer is `refused N card K`, or how many parts an accepted sheet has and how many columns.
+An expected answer is `refused N card K`, or how many parts an accepted sheet has, how many columns, and, where that isn't one, how
+many finishes.
 """
 import struct
 import sys
@@ -22,12 +23,15 @@ def f64(*xs):
     return b"".join(struct.pack("<d", x) for x in xs)
 
 
-def settings(d=1.0, b=1.0, columns=None, roughness=None):
-    """A settings card; no columns field where `columns` is None."""
-    bits = 0b101 | (2 if roughness is not None else 0) | (8 if columns is not None else 0)
+def settings(d=1.0, b=1.0, columns=None, roughness=None, finishes=None):
+    """A settings card; no columns field where `columns` is None, no finishes field where `finishes` is."""
+    fields = [(1, roughness), (3, columns), (4, finishes)]
+    bits = 0b101 | sum(1 << k for k, field in fields if field is not None)
     body = f64(d) + (f64(roughness) if roughness is not None else b"") + f64(b)
     if columns is not None:
         body += bytes([len(columns)]) + b"".join(f64(m, r) for m, r in columns)
+    if finishes is not None:
+        body += bytes([len(finishes)]) + f64(*finishes)
     return bytes([bits]) + body
 
 
@@ -85,8 +89,8 @@ add(b"\x0d", refused(4, 0))
 add(ONE[:-1], refused(4, 0))
 add(ONE + b"\x01", refused(4, 1))
 add(BARE + part(d=1.0) + part(1, 1.0, 1.0)[:-1], refused(4, 2))
-# 5: reserved bits, and shape bytes above 5, before anything that is missing
-add(b"\x10", refused(5, 0))
+# 5: reserved bits, and shape bytes above 5, before anything that is missing; bit 4 of settings alone is 6, D and B being missed
+add(b"\x10", refused(6, 0))
 add(b"\xff", refused(5, 0))
 add(b"\x80" + f64(1.0, 1.0), refused(5, 0))
 add(ONE + b"\x80", refused(5, 1))
@@ -167,23 +171,99 @@ for cut in range(1, len(whole) + 1):
     passed = sum(1 for end in ends if end <= cut)
     add(whole[:cut], (passed - 1, 1) if cut in ends else refused(4, passed))
 
+# a settings card's bits 5 to 7 are reserved, also with all others that may stand
+for bits in [0x20, 0x40, 0x35, 0x3D, 0xF5, 0x3F]:
+    add(bytes([bits]) + f64(1.0, 1.0), refused(5, 0))
+# 1 to 4 finishes: without columns, and for the club's stack; both ends of the interval, -0, and one finish twice
+PAINTS = [2e-6, 2e-5, 6e-5, 2e-4]
+
+
+def sheet_of(parts, columns, finishes):
+    """The answer for a sheet that is accepted."""
+    return (parts, columns) if finishes == 1 else (parts, columns, finishes)
+
+
+for count in range(1, 5):
+    add(settings(finishes=PAINTS[:count]), sheet_of(0, 0, count))
+    add(settings(d=0.066, b=18.0, columns=FIVE, finishes=PAINTS[:count]) + b"".join(STACK), sheet_of(3, 5, count))
+add(settings(columns=FIVE, finishes=[0.0, -0.0, 1.0, 1.0]) + part(length=1.0, d=1.0, w=8.0), (1, 5, 4))
+# a part's own roughness holds in every finish, among parts without one
+add(settings(columns=FIVE, finishes=PAINTS) + part(1, 1.0, 3.0, 1.0, 0.0, 12.0, 1e-6) + part(length=9.0, d=1.0, w=40.0), (2, 5, 4))
+# 19 at the count byte, after D's and B's bytes and the columns', whatever they are, and before a float that is cut or out of range
+for count in [0, 5, 255]:
+    add(settings(finishes=[])[:-1] + bytes([count]), refused(19, 0))
+    add(settings(d=NAN, b=0.0, columns=[(NAN, NAN)], finishes=[])[:-1] + bytes([count]) + f64(1.5), refused(19, 0))
+    add(settings(finishes=[])[:-1] + bytes([count]) + f64(1e-5)[:-1], refused(19, 0))
+    add(settings(finishes=[])[:-1] + bytes([count]) + f64(*PAINTS) + part(d=1.0), refused(19, 0))
+add(settings(columns=[], finishes=[])[:-2] + bytes([33, 5]), refused(7, 0))
+# 6: one roughness and several together, also with D or B missing; before any byte of a field, and after a reserved bit
+for bits in [0x17, 0x1F, 0x16, 0x13, 0x12]:
+    add(bytes([bits]), refused(6, 0))
+add(settings(roughness=1e-5, finishes=PAINTS), refused(6, 0))
+add(settings(roughness=1.5, columns=FIVE, finishes=[]) + part(d=1.0), refused(6, 0))
+for bits in [0x14, 0x11, 0x18]:
+    add(bytes([bits]) + f64(1.0), refused(6, 0))
+add(b"\x37", refused(5, 0))
+# 4: the count byte missing, a float cut before its first byte and before its last, in the first finish and in the fourth
+add(settings(finishes=[])[:-1], refused(4, 0))
+add(settings(columns=FIVE, finishes=[])[:-1], refused(4, 0))
+for count in [1, 4]:
+    whole = settings(columns=[(0.5, 1e6)], finishes=PAINTS[:count])
+    for cut in [1, 7, 8, 9]:
+        add(whole[:-cut], refused(4, 0))
+add(settings(finishes=[])[:-1] + bytes([3]) + f64(1.5, NAN), refused(4, 0))
+# 11 for any roughness, before 1 for B and for a column
+for at in range(4):
+    for k in [2.0, ABOVE_ONE, NAN, -5e-324]:
+        add(settings(b=0.0, columns=[(NAN, 0.0)], finishes=PAINTS[:at] + [k] + PAINTS[at + 1 :]), refused(11, 0))
+add(settings(d=0.0, finishes=[2.0]), refused(11, 0))
+add(settings(b=0.0, finishes=PAINTS), refused(1, 0))
+# a part's own roughness out of range, and a 17th part
+add(settings(finishes=PAINTS) + part(roughness=1.5), refused(11, 1))
+add(settings(finishes=PAINTS) + SIXTEEN + part(d=1.0), refused(9, 17))
+# the longest settings card, and with 16 parts of every field the longest stream and the longest text; a 17th, whole and cut
+LONGEST = settings(columns=[(0.1 * k, 1e6) for k in range(32)], finishes=PAINTS)
+LONGEST_STACK = b"".join(part(1, 1.0, 0.5, 0.1 * (k + 1), 0.0, 1.0, 1e-6 * (k + 1)) for k in range(16))
+add(LONGEST, (0, 32, 4))
+add(LONGEST[:-1], refused(4, 0))
+add(LONGEST + LONGEST_STACK, (16, 32, 4))
+add(LONGEST + LONGEST_STACK + SEVENTEENTH, refused(9, 17))
+add(LONGEST + LONGEST_STACK + SEVENTEENTH[:-1], refused(4, 17))
+# a stream cut after every byte of a settings card of two finishes and a part
+cards = [settings(columns=[(0.5, 1e6)], finishes=[2e-6, 2e-5]), STACK[1]]
+whole = b"".join(cards)
+for cut in range(1, len(whole) + 1):
+    passed = sum(1 for end in [len(cards[0]), len(whole)] if end <= cut)
+    add(whole[:cut], (passed - 1, 1, 2) if cut in [len(cards[0]), len(whole)] else refused(4, passed))
+
+
+def row_names(sheet):
+    """The names of the lines that a sheet has, by how many of them are parts' and frictions'."""
+    parts, finishes = (sum(line.startswith(word) for line in sheet) for word in ["part", "friction"])
+    of_finish = [f" {j}" for j in range(finishes)] if finishes > 1 else [""]
+    names = ["mach"] + [f"part {k}" for k in range(parts)] + ["friction" + j for j in of_finish]
+    return parts, finishes, names + ["base"] + ["total" + j for j in of_finish]
+
+
+def answer_of(sheet):
+    """The numbers of parts, columns and finishes of a sheet's lines, or the lines where they are no sheet's."""
+    parts, finishes, names = row_names(sheet)
+    rows = [line[len(name) :].split(" ")[1:] for name, line in zip(names, sheet)]
+    good = len(names) == len(sheet) and all(f"{line} ".startswith(name + " ") for name, line in zip(names, sheet))
+    good = good and all(len(row) == len(rows[0]) and all(len(bits) == 16 for bits in row) for row in rows)
+    return sheet_of(parts, len(rows[0]), finishes) if good else "\n".join(sheet)
+
 
 def answers(text):
-    """The printed answers: `refused ..`, or the numbers of parts and columns of a sheet."""
+    """The printed answers: `refused ..`, or the numbers of a sheet."""
     found, sheet = [], []
     for line in text.split("\n")[:-1]:
         if line.startswith("refused "):
             found.append(line)
             continue
         sheet.append(line)
-        if line.split(" ")[0] == "total":
-            names = [x.split(" ")[0] for x in sheet]
-            parts = len(sheet) - 4
-            good = names == ["mach"] + ["part"] * parts + ["friction", "base", "total"]
-            good = good and all(x.split(" ")[1] == str(k) for k, x in enumerate(sheet[1:-3]))
-            columns = {len(x.split(" ")) - (2 if x.startswith("part ") else 1) for x in sheet}
-            good = good and all(len(bits) == 16 for x in sheet for bits in x.split(" ")[2 if x.startswith("part ") else 1 :])
-            found.append((parts, columns.pop()) if good and len(columns) == 1 else "\n".join(sheet))
+        if sum(x.startswith("total") for x in sheet) == sum(x.startswith("friction") for x in sheet) > 0:
+            found.append(answer_of(sheet))
             sheet = []
     return found
 

@@ -9,7 +9,7 @@ use Rattle.aero_error.specs.declared.NoSuchQuantity.{NoSuchQuantity}
 use Rattle.aero_error.specs.declared.AeroError.{AeroError}
 use Rattle.aero_error.specs.declared.AeroError.TheVariants.{Domain, Broken}
 use Rattle.aero_error.specs.declared.Rule.{Rule}
-use Rattle.aero_error.specs.declared.Rule.TheVariants.{OgiveRadiusRatio, HaackAboveThird, CardEnds, ReservedBit, FieldMissing, TooManyColumns, NoSuchPlace, DesignFull, TooFewCells, OutsideInterval, FallingMach}
+use Rattle.aero_error.specs.declared.Rule.TheVariants.{OgiveRadiusRatio, HaackAboveThird, CardEnds, ReservedBit, FieldMissing, TooManyColumns, NoSuchPlace, DesignFull, TooFewCells, OutsideInterval, FallingMach, FinishCount}
 
 -- "Codes of 1, each for the Rust `what`"
 abbrev pub code_of_quantity : Quantity → ℕ
@@ -53,6 +53,7 @@ number_of_rule DesignFull = 9
 number_of_rule TooFewCells = 10
 number_of_rule OutsideInterval = 11
 number_of_rule FallingMach = 16
+number_of_rule FinishCount = 19
 
 -- "1: `Domain`; adds a code and the value". Any other refusal adds neither, here code 0 and value +0.
 abbrev pub number_of : AeroError → ℕ
@@ -80,6 +81,7 @@ rule_small DesignFull = omega arith
 rule_small TooFewCells = omega arith
 rule_small OutsideInterval = omega arith
 rule_small FallingMach = omega arith
+rule_small FinishCount = omega arith
 
 pub number_small : (e : AeroError) → number_of e < 100
 number_small (Domain what value) = omega arith

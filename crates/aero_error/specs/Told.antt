@@ -10,7 +10,7 @@ use Rattle.aero_error.specs.declared.Quantity.TheVariants.{Mach, Fineness, Joint
 use Rattle.aero_error.specs.declared.AeroError.{AeroError}
 use Rattle.aero_error.specs.declared.AeroError.TheVariants.{Domain, Broken}
 use Rattle.aero_error.specs.declared.Rule.{Rule}
-use Rattle.aero_error.specs.declared.Rule.TheVariants.{OgiveRadiusRatio, HaackAboveThird, CardEnds, ReservedBit, FieldMissing, TooManyColumns, NoSuchPlace, DesignFull, TooFewCells, OutsideInterval, FallingMach}
+use Rattle.aero_error.specs.declared.Rule.TheVariants.{OgiveRadiusRatio, HaackAboveThird, CardEnds, ReservedBit, FieldMissing, TooManyColumns, NoSuchPlace, DesignFull, TooFewCells, OutsideInterval, FallingMach, FinishCount}
 use Rattle.aero_error.specs.Refusals.{number_of, number_of_rule, code_of, refused_value, code_of_quantity}
 
 pub record Told : Type 0 where
@@ -70,7 +70,7 @@ quantity_back BoattailFore = refl
 abbrev rules : List Rule
 rules =
     OgiveRadiusRatio ∷ HaackAboveThird ∷ CardEnds ∷ ReservedBit ∷ FieldMissing ∷ TooManyColumns ∷ NoSuchPlace ∷ DesignFull ∷ TooFewCells ∷
-    OutsideInterval ∷ FallingMach ∷ []
+    OutsideInterval ∷ FallingMach ∷ FinishCount ∷ []
 
 -- the rule that has a number
 abbrev rule_of : ℕ → List Rule → Rule
@@ -92,6 +92,7 @@ rule_back DesignFull = refl
 rule_back TooFewCells = refl
 rule_back OutsideInterval = refl
 rule_back FallingMach = refl
+rule_back FinishCount = refl
 
 error_back : (e : AeroError) → error_of (told_of e) ≡ e
 error_back (Domain what value) = ap (λ (q : Quantity). Domain q value) (quantity_back what)

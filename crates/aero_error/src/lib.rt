@@ -47,6 +47,7 @@ pub enum Rule {
     TooFewCells = 10,
     OutsideInterval = 11,
     FallingMach = 16,
+    FinishCount = 19,
 }
 
 // A refusal: a value outside its domain, which is refusal 1, or a broken rule.

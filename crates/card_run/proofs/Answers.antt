@@ -85,11 +85,11 @@ pub fits_after : (sheet : Sheet) (part : Part) (cells : ℕ) → decision (inser
 fits_after sheet part cells d =
     let f = accepted_part sheet cells part d in
     let m = one_more sheet part in
-    record { columns = f.fits.columns; parts = omega (arith, m, f.room); room = f.fits.room }
+    record { finishes = f.fits.finishes; columns = f.fits.columns; parts = omega (arith, m, f.room); room = f.fits.room }
 
 -- an opened sheet is within its bounds
 pub fits_open : (s : Settings) (cells : ℕ) → settings_test s cells ≡ Ok tt → Fits (blank s) cells
-fits_open s cells d = let f = settings_facts s cells d in record { columns = f.0; parts = omega arith; room = f.1 }
+fits_open s cells d = let f = settings_facts s cells d in record { finishes = f.finishes; columns = f.columns; parts = omega arith; room = f.room }
 
 -- ---- a run's contract, once it is known where the run stops
 

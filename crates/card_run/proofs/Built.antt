@@ -102,7 +102,7 @@ sequence (suc n) s at sheet xs h l o =
 -- ---- the whole stream
 
 first_arrays : (s : List ℕ) → Long (first_card s).settings
-first_arrays [] = (refl, refl)
+first_arrays [] = (refl, refl, refl)
 first_arrays (b ∷ s) = by (settings_at (b ∷ s) 0) (settings_long (b ∷ s) 0)
   where
     by : (r : Read Settings) → LongRead r → Long (card_of r).settings
@@ -125,7 +125,7 @@ module _ (s : List ℕ) (xs : List Float) where
       let answer : Answer = record { outcome = Ok tt; sheet = sheet } in
       let z : Opened card.settings xs answer ys = record { answer = rw t; left = rw t } in
       let long = first_arrays s in
-      let a = (lists_agree card.settings xs answer ys long.0 long.1 z).accepted refl (sequence (length s) s card.next sheet ys (omega arith) (omega arith) o) in
+      let a = (lists_agree card.settings xs answer ys long.1 long.2 z).accepted refl (sequence (length s) s card.next sheet ys (omega arith) (omega arith) o) in
       let d : model_decisions (length xs) (inserts 0 ps) (opened_model card.settings) ≡ accepted ps = sym (all_told_apart _ _ a.answers) in
       let model = appended (length xs) ps (opened_model card.settings) d in
       let tested = tested_through (length xs) (inserts 0 ps) (opened_model card.settings) (tested_open card.settings (length xs) t) in

@@ -16,7 +16,7 @@ use Rattle.elementary.specs.Constants.{0·0}
 use Rattle.drag.specs.Pressure.{base_drag_coefficient}
 use Rattle.sheet_data.specs.declared.Part.{Part}
 use Rattle.sheet_data.specs.declared.Sheet.{Sheet}
-use Rattle.sheet_data.specs.Layout.{finishes, base_row, all_rows}
+use Rattle.sheet_data.specs.Layout.{base_row, all_rows}
 use Rattle.sheet_data.specs.Contents.{mach_at, contents_of, blank}
 use Rattle.sheet_data.specs.Tests.{settings_test}
 use Rattle.sheet_data.specs.Tables.{tab, tab_same}
@@ -81,10 +81,10 @@ stream_coasts s xs =
 -- ---- the base row of an accepted stream
 
 pub stream_base : (s : List ℕ) (xs : List Float) → outcome (stream_of s xs) ≡ Ok tt → let c = said s in let D = c.settings.reference_diameter in
-    row_at c.settings.count (stream_of s xs).cells (base_row finishes) ≡ tab c.settings.count (λ k. value_of (base_drag_coefficient (mach_at c.settings k)) ⊗ (last_diameter c ⊗ last_diameter c ⊘ (D ⊗ D)))
+    row_at c.settings.count (stream_of s xs).cells (base_row c.settings.finishes) ≡ tab c.settings.count (λ k. value_of (base_drag_coefficient (mach_at c.settings k)) ⊗ (last_diameter c ⊗ last_diameter c ⊘ (D ⊗ D)))
 unfolding build base_cell
 stream_base s xs o =
     let c = said s in
-    rows_laid (all_rows finishes) c.settings.count (row_of c) (stream_of s xs).cells (row_wide c) (stream_built s xs o).rows (base_row finishes) (omega arith)
+    rows_laid (all_rows c.settings.finishes) c.settings.count (row_of c) (stream_of s xs).cells (row_wide c) (stream_built s xs o).rows (base_row c.settings.finishes) (omega arith)
     ∙ sym (base_made c)
     ∙ tab_same c.settings.count _ _ (λ k h. coasting_base c (length xs) (mach_at c.settings k) (stream_tested s xs o) refl)

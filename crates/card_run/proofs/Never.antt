@@ -11,7 +11,7 @@ use Rattle.aero_error.specs.Checks.{◌then◌, unless}
 use Rattle.sheet_data.specs.declared.Settings.{Settings}
 use Rattle.sheet_data.specs.declared.Part.{Part}
 use Rattle.sheet_data.specs.declared.Sheet.{Sheet}
-use Rattle.sheet_data.specs.Layout.{most_parts, most_columns, most_cells, needed, needed_few}
+use Rattle.sheet_data.specs.Layout.{most_parts, most_columns, most_finishes, most_cells, needed, needed_few}
 use Rattle.sheet_data.specs.Tests.{part_test}
 use Rattle.drag_sheet.specs.Calls.{insert, arguments_test}
 use Rattle.card_run.specs.Run.{last_place, insert_last}
@@ -24,5 +24,5 @@ pub place_present : (sheet : Sheet) (part : Part) → arguments_test (insert_las
     ≡ (unless (leb most_parts sheet.design.count) DesignFull then part_test part)
 place_present sheet part = present (last_place sheet) sheet.settings sheet.design.count part (omega arith)
 
-pub cells_enough : (columns : ℕ) → columns ≤ most_columns → unless (ltb most_cells (needed columns)) TooFewCells ≡ Ok tt
-cells_enough columns h = rw (le-ltb most_cells (needed columns) (needed_few columns h))
+pub cells_enough : (F C : ℕ) → F ≤ most_finishes → C ≤ most_columns → unless (ltb most_cells (needed F C)) TooFewCells ≡ Ok tt
+cells_enough F C f c = rw (le-ltb most_cells (needed F C) (needed_few F C f c))

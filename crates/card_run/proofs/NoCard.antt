@@ -12,12 +12,12 @@ use Rattle.elementary.specs.Tests.{between}
 use Rattle.aero_error.specs.Checks.{dimension, up_to}
 use Rattle.sheet_data.specs.Layout.{needed}
 use Rattle.sheet_data.specs.Contents.{contents_of, blank}
-use Rattle.sheet_data.specs.Tests.{columns_test, settings_test}
+use Rattle.sheet_data.specs.Tests.{roughnesses_test, columns_test, settings_test}
 use Rattle.drag_sheet.specs.Writing.{whole, overwritten}
 use Rattle.drag_sheet.specs.Lists.{Matches}
 use Rattle.drag_sheet.proofs.Overwritten.{keeps}
 use Rattle.cards.specs.Fields.{eight_bytes, numbers_at}
-use Rattle.cards.specs.Cards.{columns_at, settings_fields, settings_at}
+use Rattle.cards.specs.Cards.{columns_at, finishes_at, settings_fields, settings_at}
 use Rattle.card_run.specs.Run.{FirstCard, card_of, Ran, stopped_at, no_card, stream_from, stream_of}
 use Rattle.card_run.specs.Said.{parts_said, said}
 use Rattle.card_run.proofs.Stream.{cards_end, outcome}
@@ -32,14 +32,14 @@ abbrev pub card_05 : List ℕ
 card_05 = 5 ∷ one ++ one
 
 -- no columns need no cells
-none_needed : needed 0 ≡ 0
+none_needed : needed 1 0 ≡ 0
 none_needed = omega arith
 
 module _ (xs : List Float) where
   -- these settings are accepted, however many cells there are, and nothing is written
   accepted : (cells : ℕ) → settings_test no_card.settings cells ≡ Ok tt
-  unfolding settings_test columns_test between dimension up_to le of_bits
-  accepted cells = rw (le-ltb cells (needed 0) (omega arith))
+  unfolding settings_test roughnesses_test columns_test between dimension up_to le of_bits
+  accepted cells = rw (le-ltb cells (needed 1 0) (omega arith))
 
   unwritten : overwritten whole (contents_of (blank no_card.settings)) xs ≡ xs
   unwritten =
@@ -63,7 +63,7 @@ module _ (xs : List Float) where
 
   -- a card that says D = 1 and B = 1 and nothing else, `05`, comes to the same
   pub as_card : stream_of [] xs ≡ stream_of card_05 xs
-  unfolding stream_of settings_at settings_fields columns_at numbers_at eight_bytes
+  unfolding stream_of settings_at settings_fields columns_at finishes_at numbers_at eight_bytes
   as_card = no_bytes ∙ sym (alone card_05 (card_of (settings_at card_05 0)) refl refl (omega arith))
 
   -- every stream that has a byte: as if there were no other

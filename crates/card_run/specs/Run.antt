@@ -9,7 +9,7 @@ use Rattle.aero_error.specs.declared.AeroError.{AeroError}
 use Rattle.sheet_data.specs.declared.Settings.{Settings}
 use Rattle.sheet_data.specs.declared.Part.{Part}
 use Rattle.sheet_data.specs.declared.Sheet.{Sheet}
-use Rattle.sheet_data.specs.Layout.{most_parts, most_columns}
+use Rattle.sheet_data.specs.Layout.{most_parts, most_columns, most_finishes}
 use Rattle.sheet_data.specs.Contents.{contents_of, blank, Fits}
 use Rattle.sheet_data.specs.Tests.{settings_test}
 use Rattle.drag_sheet.specs.Writing.{whole, overwritten}
@@ -82,11 +82,12 @@ abbrev pub card_of : Read Settings → FirstCard
 card_of (Ok (settings, next)) = record { outcome = Ok tt; settings = settings; next = next }
 card_of (Err e) = record { outcome = Err e; settings = no_settings; next = 0 }
 
--- what stands for the settings card where there are no bytes: D = 1, B = 1, roughness 0, no columns
+-- what stands for the settings card where there are no bytes: D = 1, B = 1, one finish of roughness 0, no columns
 abbrev pub unsaid : Settings
 unsaid = record {
   reference_diameter = 1·0;
-  roughness = 0·0;
+  finishes = 1;
+  roughnesses = replicate most_finishes 0·0;
   body_fineness = 1·0;
   count = 0;
   machs = replicate most_columns 0·0;

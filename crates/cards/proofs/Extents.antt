@@ -3,9 +3,10 @@
 -- bytes add up.
 use Rattle.std.specs.Prelude.{Some, Ok, Err}
 use mathlib.Core.Path.{◌≡◌, refl, sym, ap, ◌∙◌}
-use mathlib.Core.Bool.{Bool, true, false, not}
+use mathlib.Core.Bool.{Bool, true, false, cond, not, ◌&&◌, false≢true}
 use mathlib.Core.List.{List}
-use Prim.Native.Nat.{ℕ, zero, suc, ◌+◌, ◌*◌, ◌≤◌, ◌<◌, min}
+use Prim.Native.Nat.{ℕ, zero, suc, ◌+◌, ◌-◌, ◌*◌, ◌≤◌, ◌<◌, min}
+use native.Mathlib.Nat.{mul-suc}
 use native.Mathlib.Omega.{arith}
 use lib.ListN.{length, get_or, take, length-take}
 use lib.Seq.{get_or-take}
@@ -16,13 +17,14 @@ use Rattle.elementary.specs.Arithmetic.{bits}
 use Rattle.elementary.specs.Constants.{0·0}
 use Rattle.aero_error.specs.declared.AeroError.TheVariants.{Broken}
 use Rattle.aero_error.specs.declared.Rule.{Rule}
-use Rattle.aero_error.specs.declared.Rule.TheVariants.{CardEnds}
+use Rattle.aero_error.specs.declared.Rule.TheVariants.{CardEnds, FinishCount}
 use Rattle.aero_error.specs.Checks.{unless, ◌and_then◌, ◌for_value◌}
 use Rattle.shapes.specs.Numbers.{shape_of}
-use Rattle.sheet_data.specs.declared.Settings.{Settings}
-use Rattle.sheet_data.specs.Layout.{most_columns}
+use Rattle.sheet_data.specs.Layout.{most_columns, most_finishes}
+use Rattle.sheet_data.specs.Tests.{finishes_wrong}
+use Rattle.sheet_data.proofs.Held.{finishes_passed}
 use Rattle.cards.specs.Fields.{Read, number_bytes, pair_bytes, bit, has, four_bytes, eight_bytes, byte_at, number_at, numbers_at}
-use Rattle.cards.specs.Cards.{parameter_right, parameter_at, shape_at, roughness_at, part_fields, part_at, slots, columns_at, settings_fields, settings_at, settings_bytes, part_bytes}
+use Rattle.cards.specs.Cards.{parameter_right, parameter_at, shape_at, roughness_at, part_fields, part_at, columns_at, roughnesses_at, finishes_at, two_roughnesses, settings_fields, settings_at, settings_bytes, part_bytes}
 
 -- what a reader answers ends at n
 abbrev pub Ends : {A : Type 0} → Read A → ℕ → Type 0
@@ -112,12 +114,12 @@ module _ (s : List ℕ) (N : ℕ) where
       let b = same_four (at + 4) (omega arith) in
       cc
 
-  same_numbers : (n at : ℕ) → at + pair_bytes * n ≤ N + number_bytes → numbers_at n s at ≡ numbers_at n (take N s) at
+  same_numbers : (step n at : ℕ) → at + step * n + number_bytes ≤ N + step → numbers_at step n s at ≡ numbers_at step n (take N s) at
   unfolding numbers_at
-  same_numbers zero at h = refl
-  same_numbers (suc n) at h =
-      let a = same_eight at (omega arith) in
-      let b = same_numbers n (at + pair_bytes) (omega arith) in
+  same_numbers step zero at h = refl
+  same_numbers step (suc n) at h =
+      let a = same_eight at (omega (arith, mul-suc step n)) in
+      let b = same_numbers step n (at + step) (omega (arith, mul-suc step n)) in
       cc
 
 -- ---- the readers
@@ -149,19 +151,33 @@ absent k x = record {
   cut = λ s N at n j l m. absurd (omega (arith, j));
 }
 
-no_less : {A : Type 0} {k : ℕ} {f : List ℕ → ℕ → Read A} → Extent k k f → Extent 0 k f
-no_less F = record { reach = λ s at n e. let r = F.reach s at n e in omega (arith, r); same = F.same; kept = F.kept; cut = F.cut }
+-- fewer bytes at least, more at most
+wider : {A : Type 0} {least most fewer more : ℕ} {f : List ℕ → ℕ → Read A} → fewer ≤ least → most ≤ more → Extent least most f → Extent fewer more f
+wider l m F = record {
+  reach = λ s at n e. let r = F.reach s at n e in omega (arith, r);
+  same = λ s N at h. F.same s N at (omega arith);
+  kept = F.kept;
+  cut = F.cut;
+}
 
 map_extent : Extent 1 1 (byte_at true)
 map_extent = there 1 (λ s at. get_or s at 0) (λ s N at h. same_get s N at (omega arith))
 
 byte_extent : (present : Bool) → Extent 0 1 (byte_at present)
 byte_extent false = absent 1 0
-byte_extent true = no_less map_extent
+byte_extent true = wider (omega arith) (omega arith) map_extent
+
+-- the bytes of a field, none where it is absent
+abbrev if_there : Bool → ℕ → ℕ
+if_there present k = cond present k 0
+
+number_there : (present : Bool) → Extent 0 (if_there present number_bytes) (number_at present)
+number_there false = absent 0 0·0
+number_there true = wider (omega arith) (omega arith) (there number_bytes (λ s at. bits (eight_bytes s at)) (λ s N at h. ap bits (same_eight s N at h)))
 
 number_extent : (present : Bool) → Extent 0 number_bytes (number_at present)
 number_extent false = absent number_bytes 0·0
-number_extent true = no_less (there number_bytes (λ s at. bits (eight_bytes s at)) (λ s N at h. ap bits (same_eight s N at h)))
+number_extent true = number_there true
 
 -- ---- part cards
 
@@ -201,30 +217,51 @@ part_extent = followed _ map_extent fields_extent
 
 -- ---- settings cards
 
-columns_extent : (D roughness B : Float) (n : ℕ) → Extent 0 (most_columns * pair_bytes) (columns_at D roughness B n)
+columns_extent : (n : ℕ) → Extent 0 (most_columns * pair_bytes) (columns_at n)
 unfolding columns_at
-columns_extent D roughness B n =
+columns_extent n =
     refused_if (ltb most_columns n) _ λ e.
     let few = ltb-false most_columns n e in
-    record { reach = λ s at m i. let r = all.reach s at m i in omega (arith, r); same = λ s N at h. all.same s N at (omega arith); kept = all.kept; cut = all.cut }
-  where
-    made : List ℕ → ℕ → Settings
-    made s at = record { reference_diameter = D; roughness = roughness; body_fineness = B; count = n; machs = slots n (numbers_at n s at); reynolds = slots n (numbers_at n s (at + number_bytes)) }
+    wider (omega arith) (omega arith) (there (pair_bytes * n) _ (λ s N at h. rw (same_numbers s N pair_bytes n at (omega arith), same_numbers s N pair_bytes n (at + number_bytes) (omega arith))))
 
-    all : Extent (pair_bytes * n) (pair_bytes * n) (λ s at. unless (not (has s at (pair_bytes * n))) CardEnds and_then Ok (made s at, at + pair_bytes * n))
-    all = there (pair_bytes * n) made (λ s N at h. rw (same_numbers s N n at (omega arith), same_numbers s N n (at + number_bytes) (omega arith)))
+roughnesses_extent : (n : ℕ) → Extent 0 (most_finishes * number_bytes) (roughnesses_at n)
+unfolding roughnesses_at
+roughnesses_extent n =
+    refused_if (finishes_wrong n) _ λ e.
+    let few = finishes_passed n (ap (λ (t : Bool). unless t FinishCount) e) in
+    wider (omega arith) (omega (arith, few)) (there (number_bytes * n) _ (λ s N at h. rw (same_numbers s N number_bytes n at (omega arith))))
 
-settings_fields_extent : (map : ℕ) → Extent 0 (3 * number_bytes + (1 + most_columns * pair_bytes)) (settings_fields map)
+abbrev finishes_bytes : ℕ
+finishes_bytes = 1 + most_finishes * number_bytes
+
+finishes_extent : (present : Bool) (roughness : Float) → Extent 0 (if_there present finishes_bytes) (finishes_at present roughness)
+unfolding finishes_at
+finishes_extent false roughness = absent 0 _
+finishes_extent true roughness = followed _ (byte_extent true) roughnesses_extent
+
+-- bits 1 and 4 don't stand together
+longest : (roughness finishes : Bool) → (roughness && finishes) ≡ false
+    → number_bytes + (if_there roughness number_bytes + (number_bytes + (1 + (most_columns * pair_bytes + (if_there finishes finishes_bytes + 0))))) ≤ settings_bytes - 1
+longest true true e = absurd (false≢true (sym e))
+longest true false e = omega arith
+longest false true e = omega arith
+longest false false e = omega arith
+
+settings_fields_extent : (map : ℕ) → Extent 0 (settings_bytes - 1) (settings_fields map)
 unfolding settings_fields
 settings_fields_extent map =
-    refused_if (ltb 15 map) _ λ e.
+    refused_if (ltb 31 map) _ λ e.
     refused_if (not (bit 0 map)) _ λ e.
     refused_if (not (bit 2 map)) _ λ e.
-    followed _ (number_extent true) λ D.
-    followed _ (number_extent (bit 1 map)) λ roughness.
-    followed _ (number_extent true) λ B.
+    refused_if (two_roughnesses map) _ λ e.
+    wider (omega arith) (longest (bit 1 map) (bit 4 map) e) (
+    followed _ (number_there true) λ D.
+    followed _ (number_there (bit 1 map)) λ roughness.
+    followed _ (number_there true) λ B.
     followed _ (byte_extent (bit 3 map)) λ n.
-    columns_extent D roughness B n
+    followed _ (columns_extent n) λ columns.
+    followed _ (finishes_extent (bit 4 map) roughness) λ finishes.
+    absent 0 _)
 
 pub settings_extent : Extent 1 settings_bytes settings_at
 unfolding settings_at

@@ -1,8 +1,9 @@
--- The arrays of a card's Mach and Reynolds numbers while they are filled, pair by pair.
+-- The arrays of a card's numbers while they are filled, chunk by chunk of its bytes: a pair M, R, or a roughness.
 use mathlib.Core.Path.{◌≡◌, refl, sym, ap, ◌∙◌}
 use mathlib.Core.List.{List, [], ◌∷◌, ◌++◌, append_assoc}
 use Prim.Native.Nat.{ℕ, zero, suc, ◌+◌, ◌-◌, ◌*◌, ◌/◌, ◌<◌, ◌≤◌}
 use native.Mathlib.Numerals.{add-one}
+use native.Mathlib.Nat.{mul-suc, mul-le-mul_left, mul-div_cancel_left}
 use native.Mathlib.Omega.{arith}
 use lib.ListN.{length, set, replicate, get_or, take, drop, length-take, length-drop}
 use lib.Seq.{set_at, get_or-drop, get_or-take}
@@ -10,22 +11,22 @@ use lib.Ieee.{Float}
 use Rattle.std.specs.Simd.{first_chunks}
 use Rattle.elementary.specs.Arithmetic.{bits}
 use Rattle.elementary.specs.Constants.{0·0}
-use Rattle.sheet_data.specs.Layout.{most_columns}
-use Rattle.cards.specs.Fields.{number_bytes, pair_bytes, four_bytes, eight_bytes, numbers_at}
+use Rattle.sheet_data.proofs.Chunks.{in_chunk}
+use Rattle.cards.specs.Fields.{number_bytes, four_bytes, eight_bytes, numbers_at}
 use Rattle.cards.specs.Cards.{slots}
 
-pub numbers_long : (n : ℕ) (s : List ℕ) (at : ℕ) → length (numbers_at n s at) ≡ n
+pub numbers_long : (step n : ℕ) (s : List ℕ) (at : ℕ) → length (numbers_at step n s at) ≡ n
 unfolding numbers_at
-numbers_long zero s at = refl
-numbers_long (suc n) s at = ap suc (numbers_long n s (at + pair_bytes))
+numbers_long step zero s at = refl
+numbers_long step (suc n) s at = ap suc (numbers_long step n s (at + step))
 
 -- one number more comes last
-numbers_more : (n : ℕ) (s : List ℕ) (at : ℕ) → numbers_at (suc n) s at ≡ numbers_at n s at ++ (bits (eight_bytes s (at + pair_bytes * n)) ∷ [])
+numbers_more : (step n : ℕ) (s : List ℕ) (at : ℕ) → numbers_at step (suc n) s at ≡ numbers_at step n s at ++ (bits (eight_bytes s (at + step * n)) ∷ [])
 unfolding numbers_at
-numbers_more zero s at = let e : at ≡ at + pair_bytes * 0 = omega arith in ap (λ (k : ℕ). bits (eight_bytes s k) ∷ []) e
-numbers_more (suc n) s at =
-    let e : at + pair_bytes + pair_bytes * n ≡ at + pair_bytes * suc n = omega arith in
-    ap (λ (xs : List Float). bits (eight_bytes s at) ∷ xs) (numbers_more n s (at + pair_bytes) ∙ ap (λ (k : ℕ). numbers_at n s (at + pair_bytes) ++ (bits (eight_bytes s k) ∷ [])) e)
+numbers_more step zero s at = let e : at ≡ at + step * 0 = omega arith in ap (λ (k : ℕ). bits (eight_bytes s k) ∷ []) e
+numbers_more step (suc n) s at =
+    let e : at + step + step * n ≡ at + step * suc n = omega (arith, mul-suc step n) in
+    ap (λ (xs : List Float). bits (eight_bytes s at) ∷ xs) (numbers_more step n s (at + step) ∙ ap (λ (k : ℕ). numbers_at step n s (at + step) ++ (bits (eight_bytes s k) ∷ [])) e)
 
 -- the next of so many slots is filled
 pub slot_next : {A : Type 0} (p : List A) (x z : A) (total n : ℕ) → length p ≡ n → n < total
@@ -36,23 +37,13 @@ slot_next p x z total n l h =
     ap (λ (k : ℕ). set (p ++ replicate k z) n x) e ∙ set_at p z rest x n l ∙ sym (append_assoc p (x ∷ []) rest)
 
 -- the next number goes into its slot
-slot_filled : (n : ℕ) (s : List ℕ) (at : ℕ) → n < most_columns
-    → set (slots n (numbers_at n s at)) n (bits (eight_bytes s (at + pair_bytes * n))) ≡ slots (n + 1) (numbers_at (n + 1) s at)
-slot_filled n s at h =
-    slot_next (numbers_at n s at) (bits (eight_bytes s (at + pair_bytes * n))) 0·0 most_columns n (numbers_long n s at) h
-    ∙ ap (λ (xs : List Float). xs ++ replicate (most_columns - (n + 1)) 0·0) (sym (ap (λ (k : ℕ). numbers_at k s at) (add-one n) ∙ numbers_more n s at))
+slot_filled : (most step n : ℕ) (s : List ℕ) (at : ℕ) → n < most
+    → set (slots most n (numbers_at step n s at)) n (bits (eight_bytes s (at + step * n))) ≡ slots most (n + 1) (numbers_at step (n + 1) s at)
+slot_filled most step n s at h =
+    slot_next (numbers_at step n s at) (bits (eight_bytes s (at + step * n))) 0·0 most n (numbers_long step n s at) h
+    ∙ ap (λ (xs : List Float). xs ++ replicate (most - (n + 1)) 0·0) (sym (ap (λ (k : ℕ). numbers_at step k s at) (add-one n) ∙ numbers_more step n s at))
 
--- ---- the numbers of a pair, by their places among all bytes
-
--- a byte of the pair in place i of n
-in_pair : (n i q : ℕ) (us : List ℕ) → i < n → q < pair_bytes → get_or (get_or (first_chunks pair_bytes n us) i []) q 0 ≡ get_or us (pair_bytes * i + q) 0
-in_pair zero i q us h l = absurd (omega arith)
-in_pair (suc n) zero q us h l =
-    let z : q ≡ pair_bytes * 0 + q = omega arith in
-    get_or-take pair_bytes us q 0 l ∙ ap (λ (k : ℕ). get_or us k 0) z
-in_pair (suc n) (suc i) q us h l =
-    let z : pair_bytes + (pair_bytes * i + q) ≡ pair_bytes * suc i + q = omega arith in
-    in_pair n i q (drop pair_bytes us) (omega arith) l ∙ get_or-drop pair_bytes us (pair_bytes * i + q) 0 ∙ ap (λ (k : ℕ). get_or us k 0) z
+-- ---- the numbers of a chunk, by their places among all bytes
 
 -- the same bytes are the same number
 four_same : (us s : List ℕ) (j k : ℕ) → ((q a b : ℕ) → q < 4 → a ≡ j + q → b ≡ k + q → get_or us a 0 ≡ get_or s b 0) → four_bytes us j ≡ four_bytes s k
@@ -67,34 +58,35 @@ eight_same us s j k h =
       four_same us s (j + 4) (k + 4) (λ q a b l e f. h (4 + q) a b (omega arith) (omega arith) (omega arith)),
     )
 
-eight_in_pair : (s : List ℕ) (at m n i j k : ℕ) → i < n → pair_bytes * n ≤ m → j + number_bytes ≤ pair_bytes → k ≡ at + j
-    → eight_bytes (get_or (first_chunks pair_bytes n (take m (drop at s))) i []) j ≡ eight_bytes s (k + pair_bytes * i)
-eight_in_pair s at m n i j k h l w e =
-    eight_same _ s j (k + pair_bytes * i) (λ q a b r f g.
-    let p : at + (pair_bytes * i + a) ≡ b = omega arith in
-    in_pair n i a (take m (drop at s)) h (omega arith)
-    ∙ get_or-take m (drop at s) (pair_bytes * i + a) 0 (omega arith)
-    ∙ get_or-drop at s (pair_bytes * i + a) 0
+eight_in_chunk : (step : ℕ) (s : List ℕ) (at m n i j k : ℕ) → i < n → step * n ≤ m → j + number_bytes ≤ step → k ≡ at + j
+    → eight_bytes (get_or (first_chunks step n (take m (drop at s))) i []) j ≡ eight_bytes s (k + step * i)
+eight_in_chunk step s at m n i j k h l w e =
+    let below : step * suc i ≤ step * n = mul-le-mul_left step h in
+    eight_same _ s j (k + step * i) (λ q a b r f g.
+    let p : at + (step * i + a) ≡ b = omega arith in
+    in_chunk step n i a (take m (drop at s)) 0 h (omega arith)
+    ∙ get_or-take m (drop at s) (step * i + a) 0 (omega (arith, mul-suc step i))
+    ∙ get_or-drop at s (step * i + a) 0
     ∙ ap (λ (x : ℕ). get_or s x 0) p)
 
--- a number of the next pair goes into its slot
-pub pair_filled : (s : List ℕ) (at w i j k : ℕ) (ps : List (List ℕ)) (x : Float) (out : List Float)
+-- a number of the next chunk goes into its slot
+pub number_filled : (step most : ℕ) (s : List ℕ) (at w i j k : ℕ) (ps : List (List ℕ)) (x : Float) (out : List Float)
     → x ≡ bits (eight_bytes (get_or ps i []) j)
-    → let us = take (at + pair_bytes * w - at) (drop at s) in
-    ps ≡ first_chunks pair_bytes (length us / pair_bytes) us
-    → length ps ≡ length us / pair_bytes
-    → out ≡ slots i (numbers_at i s k)
+    → let us = take (at + step * w - at) (drop at s) in
+    ps ≡ first_chunks step (length us / step) us
+    → length ps ≡ length us / step
+    → out ≡ slots most i (numbers_at step i s k)
     → i < length ps
-    → w ≤ most_columns
-    → at + pair_bytes * w ≤ length s
-    → j + number_bytes ≤ pair_bytes
+    → w ≤ most
+    → at + step * w ≤ length s
+    → j + number_bytes ≤ step
     → k ≡ at + j
-    → set out i x ≡ slots (i + 1) (numbers_at (i + 1) s k)
-pair_filled s at w i j k ps x out e f g h l few there within q =
-    let m = at + pair_bytes * w - at in
+    → set out i x ≡ slots most (i + 1) (numbers_at step (i + 1) s k)
+number_filled step most s at w i j k ps x out e f g h l few there within q =
+    let m = at + step * w - at in
     let us = take m (drop at s) in
-    let a = length-take m (drop at s) in
-    let b = length-drop at s in
-    let low : i < most_columns = omega (arith, a, b) in
-    let same = eight_in_pair s at m (length us / pair_bytes) i j k (omega arith) (omega (arith, a, b)) within q in
-    cc (same, slot_filled i s k low)
+    let all : length us ≡ step * w = omega (arith, length-take m (drop at s), length-drop at s) in
+    let count : length us / step ≡ w = rw all (mul-div_cancel_left w (omega arith)) in
+    let low : i < most = omega arith in
+    let same = eight_in_chunk step s at m (length us / step) i j k (omega arith) (rw count (omega arith)) within q in
+    cc (same, slot_filled most step i s k low)

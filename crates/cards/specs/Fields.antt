@@ -44,11 +44,11 @@ abbrev pub number_at : Bool → List ℕ → ℕ → Read Float
 number_at false s at = Ok (0·0, at)
 number_at true s at = unless (not (has s at number_bytes)) CardEnds and_then Ok (bits (eight_bytes s at), at + number_bytes)
 
--- the Mach or the Reynolds numbers of n pairs M, R
-unfoldable pub numbers_at : ℕ → List ℕ → ℕ → List Float
+-- n numbers, each `step` bytes after the one before: the Mach or the Reynolds numbers of n pairs M, R, or n roughnesses
+unfoldable pub numbers_at : ℕ → ℕ → List ℕ → ℕ → List Float
 unfolding eight_bytes
-numbers_at zero s at = []
-numbers_at (suc n) s at = bits (eight_bytes s at) ∷ numbers_at n s (at + pair_bytes)
+numbers_at step zero s at = []
+numbers_at step (suc n) s at = bits (eight_bytes s at) ∷ numbers_at step n s (at + step)
 
 -- what a reader of bytes took of them, and where it stands then
 abbrev pub with_end : {A : Type 0} → Result A AeroError → ℕ → Read A

@@ -2,12 +2,12 @@
 // from lent bytes.
 ghost use Rattle.std.specs.Prelude.{◌≡◌, ◌+◌, ◌*◌, ◌≤◌, ◌<◌, length};
 ghost use Rattle.elementary.specs.Arithmetic.{bits};
-ghost use Rattle.sheet_data.specs.Layout.{most_columns};
+ghost use Rattle.sheet_data.specs.Layout.{most_columns, most_finishes};
 ghost use Rattle.cards.specs.Fields.{number_bytes, pair_bytes, bit, has, eight_bytes, byte_at, number_at, numbers_at, Took};
 ghost use Rattle.cards.specs.Cards.{slots};
 
 use aero_error::{AeroError, Rule, unless};
-use sheet_data::layout::COLUMNS;
+use sheet_data::layout::{COLUMNS, FINISHES};
 
 // The bytes of a float field, and of a column's two.
 pub(crate) const NUMBER_BYTES: usize = 8;
@@ -40,11 +40,11 @@ fn number_at(s: &[u8], at: usize) -> f64
 
 // The Machs and the Reynolds numbers of n pairs, each in an array for as many as there may be.
 #[inline(always)]
-#[tactic(auto, using(crate::proofs::Numbers::pair_filled), unfolding(crate::specs::Fields::numbers_at))]
+#[tactic(auto, using(crate::proofs::Numbers::number_filled), unfolding(crate::specs::Fields::numbers_at))]
 pub(crate) fn pairs_at(n: usize, s: &[u8], at: usize) -> ([f64; COLUMNS], [f64; COLUMNS])
     requires { (n ≤ most_columns) × (at + pair_bytes * n ≤ length s.now) }
-    ensures machs { result.0 ≡ slots n (numbers_at n s.now at) }
-    ensures reynolds { result.1 ≡ slots n (numbers_at n s.now (at + number_bytes)) }
+    ensures machs { result.0 ≡ slots most_columns n (numbers_at pair_bytes n s.now at) }
+    ensures reynolds { result.1 ≡ slots most_columns n (numbers_at pair_bytes n s.now (at + number_bytes)) }
 {
     let mut machs = [0.0; COLUMNS];
     let mut reynolds = [0.0; COLUMNS];
@@ -55,6 +55,22 @@ pub(crate) fn pairs_at(n: usize, s: &[u8], at: usize) -> ([f64; COLUMNS], [f64; 
         reynolds[i] = number_at(pair, NUMBER_BYTES);
     }
     (machs, reynolds)
+}
+
+// n roughnesses, in an array for as many as there may be.
+#[inline(always)]
+#[tactic(auto, using(crate::proofs::Numbers::number_filled), unfolding(crate::specs::Fields::numbers_at))]
+pub(crate) fn roughnesses_at(n: usize, s: &[u8], at: usize) -> [f64; FINISHES]
+    requires { (n ≤ most_finishes) × (at + number_bytes * n ≤ length s.now) }
+    ensures { result ≡ slots most_finishes n (numbers_at number_bytes n s.now at) }
+{
+    let mut roughnesses = [0.0; FINISHES];
+    let (numbers, _) = s[at..at + NUMBER_BYTES * n].as_chunks::<NUMBER_BYTES>();
+    // By place, as above.
+    for (i, number) in numbers.iter().enumerate() {
+        roughnesses[i] = number_at(number, 0);
+    }
+    roughnesses
 }
 
 impl Reader<'_> {

@@ -4,18 +4,25 @@
 
 ghost use Rattle.std.specs.Prelude.{◌≡◌};
 ghost use Rattle.cards.specs.Fields.{Took};
-ghost use Rattle.cards.specs.Cards.{takes_parameter, parameter_right, shape_at, roughness_at, part_fields, part_at, no_settings, columns_at, settings_fields, settings_at};
+ghost use Rattle.cards.specs.Cards.{takes_parameter, parameter_right, shape_at, roughness_at, part_fields, part_at, no_settings, roughnesses_at, finishes_at, settings_fields, settings_at};
 
 mod fields;
 
 use aero_error::{AeroError, Rule, unless};
-use fields::{NUMBER_BYTES, PAIR_BYTES, Reader, bit, pairs_at};
+use fields::{NUMBER_BYTES, PAIR_BYTES, Reader, bit, pairs_at, roughnesses_at};
 use shapes::NoseShape;
-use sheet_data::layout::COLUMNS;
+use sheet_data::checks::check_finishes;
+use sheet_data::layout::{COLUMNS, FINISHES};
 use sheet_data::{Part, Settings};
 
-// The most bytes of a settings card: bit map, D, the roughness, B, the count and the columns.
-pub const SETTINGS_BYTES: usize = 1 + 3 * NUMBER_BYTES + 1 + COLUMNS * PAIR_BYTES;
+// The most bytes of a settings card: bit map, D, B, the count and the columns, the count and the roughnesses. A card with these has
+// no roughness of bit 1.
+pub const SETTINGS_BYTES: usize = 1
+    + 2 * NUMBER_BYTES
+    + 1
+    + COLUMNS * PAIR_BYTES
+    + 1
+    + FINISHES * NUMBER_BYTES;
 
 // The most bytes of a part card: bit map, shape, parameter, L, d, joint angle, w and roughness.
 pub const PART_BYTES: usize = 1 + 1 + 6 * NUMBER_BYTES;
@@ -83,42 +90,71 @@ impl Reader<'_> {
         })
     }
 
-    // The columns, and with them the settings, once D, the roughness, B and the number of columns
-    // are read.
+    // The number of finishes and their roughnesses, once that number is read.
     #[inline(always)]
-    #[tactic(auto, unfolding(crate::specs::Cards::columns_at))]
-    fn columns(&mut self, d: f64, roughness: f64, b: f64, n: u8) -> Result<Settings, AeroError>
-        ensures { Took (columns_at d roughness b n) self.old result self.new }
+    #[tactic(auto, unfolding(crate::specs::Cards::roughnesses_at))]
+    fn roughnesses(&mut self, n: u8) -> Result<(usize, [f64; FINISHES]), AeroError>
+        ensures { Took (roughnesses_at n) self.old result self.new }
     {
+        let finishes = usize::from(n);
+        check_finishes(finishes)?;
+        unless(!self.has(NUMBER_BYTES * finishes), Rule::CardEnds)?;
+        let roughnesses = roughnesses_at(finishes, self.bytes, self.at);
+        self.at += NUMBER_BYTES * finishes;
+        Ok((finishes, roughnesses))
+    }
+
+    // The same; one finish, of the roughness of bit 1, where no number is present.
+    #[inline(always)]
+    #[tactic(auto, unfolding(crate::specs::Cards::finishes_at))]
+    fn finishes(
+        &mut self,
+        present: bool,
+        roughness: f64,
+    ) -> Result<(usize, [f64; FINISHES]), AeroError>
+        ensures { Took (finishes_at present roughness) self.old result self.new }
+    {
+        if !present {
+            let mut roughnesses = [0.0; FINISHES];
+            roughnesses[0] = roughness;
+            return Ok((1, roughnesses));
+        }
+        let n = self.byte(true)?;
+        self.roughnesses(n)
+    }
+
+    // A settings card whose bit map is read.
+    #[inline(always)]
+    #[tactic(auto, unfolding(crate::specs::Cards::settings_fields, crate::specs::Cards::columns_at))]
+    fn settings(&mut self, map: u8) -> Result<Settings, AeroError>
+        ensures { Took (settings_fields map) self.old result self.new }
+    {
+        unless(31 < map, Rule::ReservedBit)?;
+        unless(!bit(map, 0), Rule::FieldMissing)?;
+        unless(!bit(map, 2), Rule::FieldMissing)?;
+        unless(bit(map, 1) && bit(map, 4), Rule::FieldMissing)?;
+        let d = self.number(true)?;
+        let roughness = self.number(bit(map, 1))?;
+        let b = self.number(true)?;
+        let n = self.byte(bit(map, 3))?;
         let count = usize::from(n);
         unless(COLUMNS < count, Rule::TooManyColumns)?;
         unless(!self.has(PAIR_BYTES * count), Rule::CardEnds)?;
-        let (machs, reynolds) = pairs_at(count, self.bytes, self.at);
+        let columns = self.at;
         self.at += PAIR_BYTES * count;
+        let (finishes, roughnesses) = self.finishes(bit(map, 4), roughness)?;
+        // The pairs last, though their bytes come first: with arrays made before the last test, the
+        // settings are cleared once more.
+        let (machs, reynolds) = pairs_at(count, self.bytes, columns);
         Ok(Settings {
             reference_diameter: d,
-            roughness,
+            finishes,
+            roughnesses,
             body_fineness: b,
             count,
             machs,
             reynolds,
         })
-    }
-
-    // A settings card whose bit map is read.
-    #[inline(always)]
-    #[tactic(auto, unfolding(crate::specs::Cards::settings_fields))]
-    fn settings(&mut self, map: u8) -> Result<Settings, AeroError>
-        ensures { Took (settings_fields map) self.old result self.new }
-    {
-        unless(15 < map, Rule::ReservedBit)?;
-        unless(!bit(map, 0), Rule::FieldMissing)?;
-        unless(!bit(map, 2), Rule::FieldMissing)?;
-        let d = self.number(true)?;
-        let roughness = self.number(bit(map, 1))?;
-        let b = self.number(true)?;
-        let n = self.byte(bit(map, 3))?;
-        self.columns(d, roughness, b, n)
     }
 }
 
@@ -151,7 +187,8 @@ pub fn no_settings() -> Settings
 {
     Settings {
         reference_diameter: 0.0,
-        roughness: 0.0,
+        finishes: 1,
+        roughnesses: [0.0; FINISHES],
         body_fineness: 0.0,
         count: 0,
         machs: [0.0; COLUMNS],

@@ -7,7 +7,7 @@ use Prim.Native.Nat.{ℕ, ◌+◌, ◌-◌}
 use native.Mathlib.Omega.{arith}
 use lib.Dec.{T}
 use lib.ListN.{length, get_or, drop, replicate, length-append}
-use lib.Seq.{drop_at, drop-drop, get_or_at, get_or-append-add}
+use lib.Seq.{drop_at, drop-drop, get_or_at, get_or-append-add, get_or-drop}
 use lib.Ieee.{Float, binary64, fits, to_bits}
 use lib.Ieee.Bits.{of_bits-to_bits}
 use Rattle.shapes.specs.declared.NoseShape.{NoseShape}
@@ -16,10 +16,10 @@ use Rattle.shapes.specs.Numbers.{number_of_shape, shape_of, parameter_of}
 use Rattle.elementary.specs.Arithmetic.{bits}
 use Rattle.sheet_data.specs.declared.Part.{Part}
 use Rattle.sheet_data.specs.declared.Sheet.{Sheet}
-use Rattle.sheet_data.specs.Layout.{most_columns, most_parts}
+use Rattle.sheet_data.specs.Layout.{most_columns, most_finishes, most_parts}
 use Rattle.sheet_data.specs.Contents.{empty_part}
-use Rattle.cobalnis.specs.Words.{first_part, machs_place, nozzle_place, parts_place, part_word_count, settings_word_count, every, spread, float, float_words, own_of, own_flag, own_bits, part_of, part_words, sheet_of, sheet_words}
-use Rattle.cobalnis.proofs.Turns.{spread_long}
+use Rattle.cobalnis.specs.Words.{roughnesses_place, fineness_place, columns_place, machs_place, reynolds_place, nozzle_place, parts_place, first_part, part_word_count, every, spread, float, float_words, own_of, own_flag, own_bits, part_of, part_words, sheet_of, sheet_words}
+use Rattle.cobalnis.proofs.Turns.{floats_long}
 
 -- ---- what the types say
 
@@ -44,12 +44,13 @@ pub record PartHeld (p : Part) : Type 0 where
 
 pub record SheetHeld (s : Sheet) : Type 0 where
   pub diameter : Number s.settings.reference_diameter
-  pub roughness : Number s.settings.roughness
+  pub roughnesses : Each Number s.settings.roughnesses
   pub fineness : Number s.settings.body_fineness
   pub machs : Each Number s.settings.machs
   pub reynolds : Each Number s.settings.reynolds
   pub parts : Each PartHeld s.design.parts
   pub nozzle : Number s.nozzle_diameter
+  pub roughnesses_long : length s.settings.roughnesses ≡ most_finishes
   pub machs_long : length s.settings.machs ≡ most_columns
   pub reynolds_long : length s.settings.reynolds ≡ most_columns
   pub parts_long : length s.design.parts ≡ most_parts
@@ -102,32 +103,68 @@ part_back p rest h =
 pub zeros_back : part_of (replicate part_word_count 0) ≡ empty_part
 zeros_back = refl
 
+-- n floats, whose words come first
+floats_back : (n : ℕ) (xs : List Float) (rest : List ℕ) → length xs ≡ n → Each Number xs → every float 1 n (spread float_words xs ++ rest) ≡ xs
+floats_back n xs rest l h = subst (λ (n : ℕ). every float 1 n (spread float_words xs ++ rest) ≡ xs) l (each_back float 1 float_words Number float_back xs rest h)
+
 pub read_back : (s : Sheet) → SheetHeld s → sheet_of (sheet_words s) ≡ s
 unfolding sheet_words
 read_back s h =
-    let m = spread float_words s.settings.machs in
-    let r = spread float_words s.settings.reynolds in
+    let a = s.settings in
+    let ws = sheet_words s in
+    let k = spread float_words a.roughnesses in
+    let m = spread float_words a.machs in
+    let r = spread float_words a.reynolds in
     let ps = spread part_words s.design.parts in
     let tail = to_bits binary64 s.nozzle_diameter ∷ s.design.count ∷ ps in
-    let ml : length m ≡ most_columns = let e = spread_long float_words 1 (λ x. refl) s.settings.machs in omega (arith, e, h.machs_long) in
-    let rl : length r ≡ most_columns = let e = spread_long float_words 1 (λ x. refl) s.settings.reynolds in omega (arith, e, h.reynolds_long) in
-    let mr : length (m ++ r) ≡ (settings_word_count - machs_place) = let e = length-append m r in omega (arith, e, ml, rl) in
+    let columns = (m ++ r) ++ tail in
+    let body = to_bits binary64 a.body_fineness ∷ a.count ∷ columns in
+    let kl : length k ≡ most_finishes = floats_long a.roughnesses ∙ h.roughnesses_long in
+    let ml : length m ≡ most_columns = floats_long a.machs ∙ h.machs_long in
+    let rl : length r ≡ most_columns = floats_long a.reynolds ∙ h.reynolds_long in
+    let mr : length (m ++ r) ≡ nozzle_place - machs_place = let e = length-append m r in omega (arith, e, ml, rl) in
+    -- what follows D and F, and what follows the number of columns
+    let walls : drop roughnesses_place ws ≡ k ++ body = append_assoc k (to_bits binary64 a.body_fineness ∷ a.count ∷ (m ++ r)) tail in
+    let after : drop machs_place ws ≡ columns =
+    sym (drop-drop (machs_place - roughnesses_place) roughnesses_place ws)
+    ∙ ap (drop (machs_place - roughnesses_place)) walls
+    ∙ sym (drop-drop 2 most_finishes (k ++ body))
+    ∙ ap (drop 2) (drop_at k body most_finishes kl) in
     let split = append_assoc m r tail in
-    let machs : every float 1 most_columns ((m ++ r) ++ tail) ≡ s.settings.machs =
-    ap (every float 1 most_columns) split
-    ∙ subst (λ (n : ℕ). every float 1 n (m ++ (r ++ tail)) ≡ s.settings.machs) h.machs_long (each_back float 1 float_words Number float_back s.settings.machs (r ++ tail) h.machs) in
-    let reynolds : every float 1 most_columns (drop most_columns ((m ++ r) ++ tail)) ≡ s.settings.reynolds =
-    ap (λ (ws : List ℕ). every float 1 most_columns (drop most_columns ws)) split
-    ∙ ap (every float 1 most_columns) (drop_at m (r ++ tail) most_columns ml)
-    ∙ subst (λ (n : ℕ). every float 1 n (r ++ tail) ≡ s.settings.reynolds) h.reynolds_long (each_back float 1 float_words Number float_back s.settings.reynolds tail h.reynolds) in
-    let nozzle : get_or ((m ++ r) ++ tail) (nozzle_place - machs_place) 0 ≡ to_bits binary64 s.nozzle_diameter = get_or_at (m ++ r) _ (s.design.count ∷ ps) 0 (nozzle_place - machs_place) mr in
-    let after : parts_place - machs_place ≡ length (m ++ r) + 1 = omega (arith, mr) in
-    let count : get_or ((m ++ r) ++ tail) (parts_place - machs_place) 0 ≡ s.design.count = ap (λ (k : ℕ). get_or ((m ++ r) ++ tail) k 0) after ∙ get_or-append-add (m ++ r) tail 1 0 in
-    let parts : every part_of part_word_count most_parts (drop (first_part - machs_place) ((m ++ r) ++ tail)) ≡ s.design.parts =
-    ap (every part_of part_word_count most_parts) (sym (drop-drop 2 (settings_word_count - machs_place) ((m ++ r) ++ tail)) ∙ ap (drop 2) (drop_at (m ++ r) tail (settings_word_count - machs_place) mr) ∙ sym (append-nil ps))
+    let roughnesses : every float 1 most_finishes (drop roughnesses_place ws) ≡ a.roughnesses = ap (every float 1 most_finishes) walls ∙ floats_back most_finishes a.roughnesses body h.roughnesses_long h.roughnesses in
+    let fineness : get_or ws fineness_place 0 ≡ to_bits binary64 a.body_fineness =
+    sym (get_or-drop roughnesses_place ws most_finishes 0)
+    ∙ ap (λ (us : List ℕ). get_or us most_finishes 0) walls
+    ∙ get_or_at k (to_bits binary64 a.body_fineness) (a.count ∷ columns) 0 most_finishes kl in
+    let next : most_finishes + 1 ≡ length k + 1 = omega (arith, kl) in
+    let n : get_or ws columns_place 0 ≡ a.count =
+    sym (get_or-drop roughnesses_place ws (most_finishes + 1) 0)
+    ∙ ap (λ (us : List ℕ). get_or us (most_finishes + 1) 0) walls
+    ∙ ap (λ (i : ℕ). get_or (k ++ body) i 0) next
+    ∙ get_or-append-add k body 1 0 in
+    let machs : every float 1 most_columns (drop machs_place ws) ≡ a.machs = ap (every float 1 most_columns) (after ∙ split) ∙ floats_back most_columns a.machs (r ++ tail) h.machs_long h.machs in
+    let reynolds : every float 1 most_columns (drop reynolds_place ws) ≡ a.reynolds =
+    ap (every float 1 most_columns) (sym (drop-drop most_columns machs_place ws) ∙ ap (drop most_columns) (after ∙ split) ∙ drop_at m (r ++ tail) most_columns ml)
+    ∙ floats_back most_columns a.reynolds tail h.reynolds_long h.reynolds in
+    let nozzle : get_or ws nozzle_place 0 ≡ to_bits binary64 s.nozzle_diameter =
+    sym (get_or-drop machs_place ws (nozzle_place - machs_place) 0)
+    ∙ ap (λ (us : List ℕ). get_or us (nozzle_place - machs_place) 0) after
+    ∙ get_or_at (m ++ r) (to_bits binary64 s.nozzle_diameter) (s.design.count ∷ ps) 0 (nozzle_place - machs_place) mr in
+    let last : parts_place - machs_place ≡ length (m ++ r) + 1 = omega (arith, mr) in
+    let count : get_or ws parts_place 0 ≡ s.design.count =
+    sym (get_or-drop machs_place ws (parts_place - machs_place) 0)
+    ∙ ap (λ (us : List ℕ). get_or us (parts_place - machs_place) 0) after
+    ∙ ap (λ (i : ℕ). get_or columns i 0) last
+    ∙ get_or-append-add (m ++ r) tail 1 0 in
+    let parts : every part_of part_word_count most_parts (drop first_part ws) ≡ s.design.parts =
+    ap (every part_of part_word_count most_parts)
+    (sym (drop-drop (first_part - machs_place) machs_place ws)
+    ∙ ap (drop (first_part - machs_place)) after
+    ∙ sym (drop-drop 2 (nozzle_place - machs_place) columns)
+    ∙ ap (drop 2) (drop_at (m ++ r) tail (nozzle_place - machs_place) mr)
+    ∙ sym (append-nil ps))
     ∙ subst (λ (n : ℕ). every part_of part_word_count n (ps ++ []) ≡ s.design.parts) h.parts_long (each_back part_of part_word_count part_words PartHeld part_back s.design.parts [] h.parts) in
-    let d = number_back s.settings.reference_diameter h.diameter in
-    let k = number_back s.settings.roughness h.roughness in
-    let b = number_back s.settings.body_fineness h.fineness in
-    let n = number_back s.nozzle_diameter h.nozzle in
-    rw (d, k, b, machs, reynolds, nozzle, n, count, parts)
+    let d = number_back a.reference_diameter h.diameter in
+    let b = number_back a.body_fineness h.fineness in
+    let z = number_back s.nozzle_diameter h.nozzle in
+    rw (d, roughnesses, fineness, b, n, machs, reynolds, nozzle, z, count, parts)

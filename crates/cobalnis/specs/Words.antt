@@ -1,7 +1,7 @@
 -- A part and a sheet as words of 64 bits: what a list of words stands for, and the words of a part and of a sheet. A float is the word of its bits.
 --
 --   a part's words: the shape's number, its parameter, length, aft diameter, joint angle, wetted ratio, whether the roughness is its own, and that roughness
---   a sheet's words: reference diameter, roughness, body fineness, number of columns, the Machs, the Reynolds numbers, nozzle diameter, number of parts, the parts
+--   a sheet's words: reference diameter, number of finishes, the roughnesses, body fineness, number of columns, the Machs, the Reynolds numbers, nozzle diameter, number of parts, the parts
 use Rattle.std.specs.Prelude.{Bool, true, false, cond, List, [], ◌∷◌, ◌++◌, ℕ, zero, suc, ◌+◌, ◌*◌, get_or, drop, ltb, eqb, Float, Some, Option, None}
 use Rattle.std.specs.Float.Ieee.{to_bits}
 use Rattle.std.specs.Float.{binary64}
@@ -11,15 +11,27 @@ use Rattle.shapes.specs.Numbers.{number_of_shape, shape_of, parameter_of}
 use Rattle.sheet_data.specs.declared.Settings.{Settings}
 use Rattle.sheet_data.specs.declared.Part.{Part}
 use Rattle.sheet_data.specs.declared.Sheet.{Sheet}
-use Rattle.sheet_data.specs.Layout.{most_columns, most_parts}
+use Rattle.sheet_data.specs.Layout.{most_columns, most_parts, most_finishes}
 
 -- ---- where the words lie
 
 abbrev pub part_word_count : ℕ
 part_word_count = 8
 
+abbrev pub finishes_place : ℕ
+finishes_place = 1
+
+abbrev pub roughnesses_place : ℕ
+roughnesses_place = finishes_place + 1
+
+abbrev pub fineness_place : ℕ
+fineness_place = roughnesses_place + most_finishes
+
+abbrev pub columns_place : ℕ
+columns_place = fineness_place + 1
+
 abbrev pub machs_place : ℕ
-machs_place = 4
+machs_place = columns_place + 1
 
 abbrev pub reynolds_place : ℕ
 reynolds_place = machs_place + most_columns
@@ -71,9 +83,10 @@ part_chunks ws = first_chunks part_word_count most_parts (drop first_part ws)
 abbrev pub settings_of : List ℕ → Settings
 settings_of ws = record {
   reference_diameter = bits (get_or ws 0 0);
-  roughness = bits (get_or ws 1 0);
-  body_fineness = bits (get_or ws 2 0);
-  count = get_or ws 3 0;
+  finishes = get_or ws finishes_place 0;
+  roughnesses = every float 1 most_finishes (drop roughnesses_place ws);
+  body_fineness = bits (get_or ws fineness_place 0);
+  count = get_or ws columns_place 0;
   machs = every float 1 most_columns (drop machs_place ws);
   reynolds = every float 1 most_columns (drop reynolds_place ws);
 }
@@ -124,10 +137,8 @@ part_words p =
 abbrev pub settings_words : Settings → List ℕ
 settings_words s =
     to_bits binary64 s.reference_diameter
-    ∷ to_bits binary64 s.roughness
-    ∷ to_bits binary64 s.body_fineness
-    ∷ s.count
-    ∷ (spread float_words s.machs ++ spread float_words s.reynolds)
+    ∷ s.finishes
+    ∷ (spread float_words s.roughnesses ++ (to_bits binary64 s.body_fineness ∷ s.count ∷ (spread float_words s.machs ++ spread float_words s.reynolds)))
 
 unfoldable pub sheet_words : Sheet → List ℕ
 unfolding spread

@@ -22,4 +22,7 @@ pub use sheets::{
     cobalnis_replace, cobalnis_set_column,
 };
 pub use stream::{cobalnis_print, cobalnis_read_part, cobalnis_read_settings};
-pub use words::{FIRST_PART, MACHS_AT, NOZZLE_AT, PART_WORDS, PARTS_AT, REYNOLDS_AT, SHEET_WORDS};
+pub use words::{
+    COLUMNS_AT, FINENESS_AT, FINISHES_AT, FIRST_PART, MACHS_AT, NOZZLE_AT, PART_WORDS, PARTS_AT,
+    REYNOLDS_AT, ROUGHNESSES_AT, SHEET_WORDS,
+};

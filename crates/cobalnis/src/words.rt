@@ -3,18 +3,26 @@
 ghost use Rattle.std.specs.Prelude.{◌≡◌, ◌+◌, ◌≤◌, length, drop};
 ghost use Rattle.std.proofs.lemmas.List.Edits.{sets};
 ghost use Rattle.elementary.specs.Arithmetic.{bits};
-ghost use Rattle.sheet_data.specs.Layout.{most_parts, most_columns};
+ghost use Rattle.sheet_data.specs.Layout.{most_parts};
 ghost use Rattle.cobalnis.specs.Words.{part_word_count, first_part, sheet_word_count, every, spread, float, float_words, own_of, own_flag, own_bits, part_of, part_chunks, part_words, settings_of, settings_words, sheet_of, sheet_words, shapes_known};
 
 use shapes::NoseShape;
-use sheet_data::layout::{COLUMNS, PARTS};
+use sheet_data::layout::{COLUMNS, FINISHES, PARTS};
 use sheet_data::{Design, Part, Settings, Sheet};
 use std::array;
 
-// Where the words lie: the Machs, the Reynolds numbers, the nozzle diameter, the number of parts, the parts.
+// Where the words lie: the number of finishes, the roughnesses, B, the number of columns, the Machs, the Reynolds numbers, the nozzle diameter, the number of parts, the parts.
 pub const PART_WORDS: usize = 8;
 
-pub const MACHS_AT: usize = 4;
+pub const FINISHES_AT: usize = 1;
+
+pub const ROUGHNESSES_AT: usize = FINISHES_AT + 1;
+
+pub const FINENESS_AT: usize = ROUGHNESSES_AT + FINISHES;
+
+pub const COLUMNS_AT: usize = FINENESS_AT + 1;
+
+pub const MACHS_AT: usize = COLUMNS_AT + 1;
 
 pub const REYNOLDS_AT: usize = MACHS_AT + COLUMNS;
 
@@ -60,10 +68,10 @@ pub fn part_of(words: &[u64; PART_WORDS]) -> Part
     }
 }
 
-// A float for each column, from a sheet's words.
-fn floats_at(words: &[u64; SHEET_WORDS], at: usize) -> [f64; COLUMNS]
-    requires { at + most_columns ≤ sheet_word_count }
-    ensures { result ≡ every float 1 most_columns (drop at words.now) }
+// So many floats from a sheet's words.
+fn floats_at<const N: usize>(words: &[u64; SHEET_WORDS], at: usize) -> [f64; N]
+    requires { at + N ≤ sheet_word_count }
+    ensures { result ≡ every float 1 N (drop at words.now) }
 {
     array::from_fn(|i| elementary::from_bits(words[at + i]))
 }
@@ -92,9 +100,10 @@ pub fn settings_of(words: &[u64; SHEET_WORDS]) -> Settings
     let reynolds = floats_at(words, REYNOLDS_AT);
     Settings {
         reference_diameter: elementary::from_bits(words[0]),
-        roughness: elementary::from_bits(words[1]),
-        body_fineness: elementary::from_bits(words[2]),
-        count: words[3] as usize,
+        finishes: words[FINISHES_AT] as usize,
+        roughnesses: floats_at(words, ROUGHNESSES_AT),
+        body_fineness: elementary::from_bits(words[FINENESS_AT]),
+        count: words[COLUMNS_AT] as usize,
         machs,
         reynolds,
     }
@@ -155,9 +164,9 @@ pub fn part_words(part: Part) -> [u64; PART_WORDS]
 }
 
 #[tactic(auto, using(crate::proofs::Turns::float_more), unfolding(crate::specs::Words::spread))]
-fn put_floats(floats: [f64; COLUMNS], words: &mut [u64; SHEET_WORDS], start: usize)
-    requires { start + most_columns ≤ sheet_word_count }
-    ensures { words.new ≡ sets words.old start (spread float_words floats) }
+fn put_floats<const N: usize>(floats: [f64; N], words: &mut [u64; SHEET_WORDS], start: usize)
+    requires { start + N ≤ sheet_word_count }
+    ensures { words.new ≡ sets words.old start (spread float_words floats.entry) }
 {
     // By place, as in `fill` (noses.rt).
     for (i, float) in floats.iter().enumerate() {
@@ -191,9 +200,10 @@ pub fn put_settings(settings: Settings, words: &mut [u64; SHEET_WORDS])
     let machs = settings.machs;
     let reynolds = settings.reynolds;
     words[0] = elementary::to_bits(settings.reference_diameter);
-    words[1] = elementary::to_bits(settings.roughness);
-    words[2] = elementary::to_bits(settings.body_fineness);
-    words[3] = settings.count as u64;
+    words[FINISHES_AT] = settings.finishes as u64;
+    put_floats(settings.roughnesses, words, ROUGHNESSES_AT);
+    words[FINENESS_AT] = elementary::to_bits(settings.body_fineness);
+    words[COLUMNS_AT] = settings.count as u64;
     put_floats(machs, words, MACHS_AT);
     put_floats(reynolds, words, REYNOLDS_AT);
 }

@@ -20,7 +20,7 @@ use Rattle.aero_error.specs.declared.Quantity.TheVariants.{Mach, Reynolds, BodyF
 use Rattle.aero_error.specs.declared.AeroError.{AeroError}
 use Rattle.aero_error.specs.declared.AeroError.TheVariants.{Broken}
 use Rattle.aero_error.specs.declared.Rule.{Rule}
-use Rattle.aero_error.specs.declared.Rule.TheVariants.{TooManyColumns, NoSuchPlace, DesignFull, TooFewCells}
+use Rattle.aero_error.specs.declared.Rule.TheVariants.{TooManyColumns, NoSuchPlace, DesignFull, TooFewCells, FinishCount}
 use Rattle.aero_error.specs.Refusals.{number_of_rule, number_of}
 use Rattle.aero_error.specs.CheckLaws.{unless_passed}
 use Rattle.drag.specs.Friction.{mach_checked, flow_checked}
@@ -28,7 +28,7 @@ use Rattle.sheet_data.specs.declared.Settings.{Settings}
 use Rattle.sheet_data.specs.declared.Part.{Part}
 use Rattle.sheet_data.specs.Layout.{most_parts, most_columns, needed}
 use Rattle.sheet_data.specs.Contents.{part_at}
-use Rattle.sheet_data.specs.Tests.{in_interval, own_test, body_test, columns_test, settings_test, part_test, parts_test}
+use Rattle.sheet_data.specs.Tests.{in_interval, own_test, finishes_wrong, finishes_test, roughnesses_test, body_test, columns_test, settings_test, part_test, parts_test}
 use Rattle.drag_sheet.specs.Calls.{Call, replace, insert, remove, set_column, ignite, burnout, arguments_test}
 use Rattle.drag_sheet.proofs.Verdicts.{never}
 use Rattle.drag_sheet.proofs.Refusals.{then_failed, unless_failed}
@@ -76,12 +76,14 @@ module _ (n : ℕ) (low : 8 ≤ n) (high : n ≤ 9) where
   other_flow M R = other_then n (mach_checked M) _ (other_mach M) (other_required (dimension R true) Reynolds R)
 
   pub other_settings : (s : Settings) (cells : ℕ) → Other n (settings_test s cells)
-  unfolding settings_test columns_test
+  unfolding settings_test columns_test roughnesses_test
   other_settings s cells =
       other_then n (unless (ltb most_columns s.count) TooManyColumns) _ (other_unless n (ltb most_columns s.count) TooManyColumns (λ q. omega arith))
       (other_then n (body_test s) _
-      (other_then n (in_interval _ s.reference_diameter _) _ (other_interval _ _ _) (other_then n (in_interval _ s.roughness _) _ (other_interval _ _ _) (other_required (dimension s.body_fineness false) BodyFineness _)))
-      (other_then n (columns_test s) _ (other_up n s.count _ (λ k. other_flow _ _)) (other_unless n (ltb cells (needed s.count)) TooFewCells (λ q. omega arith))))
+      (other_then n (in_interval _ s.reference_diameter _) _ (other_interval _ _ _)
+      (other_then n (finishes_test s.finishes) _ (other_unless n (finishes_wrong s.finishes) FinishCount (λ q. omega arith))
+      (other_then n (roughnesses_test s) _ (other_up n s.finishes _ (λ j. other_interval _ _ _)) (other_required (dimension s.body_fineness false) BodyFineness _))))
+      (other_then n (columns_test s) _ (other_up n s.count _ (λ k. other_flow _ _)) (other_unless n (ltb cells (needed s.finishes s.count)) TooFewCells (λ q. omega arith))))
 
   other_own : (k : Option Float) → Other n (own_test k)
   other_own None = tt

@@ -9,9 +9,8 @@ use mathlib.Core.Bool.{true, false, false≢true}
 use mathlib.Core.List.{List, [], ◌∷◌}
 use Prim.Native.Nat.{ℕ, zero, suc, ◌<◌}
 use native.Mathlib.Nat.{not-suc-le-zero, le_of_suc-le-suc}
-use native.Mathlib.Omega.{arith}
 use lib.ListN.{length, get_or, take}
-use lib.Seq.{length-take-le, get_or-take}
+use lib.Seq.{get_or-take}
 use lib.Ieee.{Float, nan}
 use Rattle.elementary.specs.Arithmetic.{◌⊗◌}
 use Rattle.aero_error.specs.declared.AeroError.{AeroError}
@@ -21,10 +20,10 @@ use Rattle.drag.specs.Friction.{wall_of, friction_on, body_friction_form_factor,
 use Rattle.drag.specs.Flows.{friction_in, in_flow}
 use Rattle.sheet_data.specs.declared.Settings.{Settings}
 use Rattle.sheet_data.specs.declared.Part.{Part}
-use Rattle.sheet_data.specs.Contents.{Contents, part_at, mach_at, reynolds_at}
+use Rattle.sheet_data.specs.Contents.{Contents, part_at, roughness_at, mach_at, reynolds_at}
 use Rattle.sheet_data.specs.Tables.{tab, tab_long, tab_at, tab_same}
 use Rattle.drag_sheet.specs.Formulas.{value_of, roughness_of, formed_friction, sum_to, friction_cell}
-use Rattle.drag_sheet.specs.Body.{friction_row_cells, any_own, no_flow, flow_at, Flows, formed, formed_for}
+use Rattle.drag_sheet.specs.Body.{friction_row_cells, any_own, flow_at, Flows, formed, formed_for}
 use Rattle.drag_sheet.proofs.Sums.{sum_same}
 
 -- a part with a roughness of its own is seen
@@ -49,26 +48,22 @@ module _ (s : Settings) (flows : List (Result Flow AeroError)) (F : Flows s flow
       ap (λ (c : Coefficient). value_of c ⊗ value_of (body_friction_form_factor s.body_fineness))
       (ap (friction_in (wall_of x)) (F.at k h) ∙ in_flow (wall_of x) true (reynolds_at s k) (mach_at s k) (inl refl) ∙ on_wall_lem x (reynolds_at s k) (mach_at s k))
 
-  -- the flows of the columns that count alone
-  pub flows_taken : Flows s (take s.count flows)
-  flows_taken = record { long = omega (arith, length-take-le s.count flows F.long); at = λ k h. get_or-take s.count flows k no_flow h ∙ F.at k h }
-
-  formed_is : (r : Option Float) (common : Float) (k : ℕ) → k < s.count → common ≡ formed (wall_of s.roughness) (value_of (body_friction_form_factor s.body_fineness)) (flow_at flows k)
-      → formed_for r common (value_of (body_friction_form_factor s.body_fineness)) (flow_at flows k) ≡ formed_friction s (roughness_of r s.roughness) (mach_at s k) (reynolds_at s k)
-  formed_is None common k h e = e ∙ on_flow s.roughness k h
-  formed_is (Some x) common k h e = on_flow x k h
+  formed_is : (a : Float) (r : Option Float) (common : Float) (k : ℕ) → k < s.count → common ≡ formed (wall_of a) (value_of (body_friction_form_factor s.body_fineness)) (flow_at flows k)
+      → formed_for r common (value_of (body_friction_form_factor s.body_fineness)) (flow_at flows k) ≡ formed_friction s (roughness_of r a) (mach_at s k) (reynolds_at s k)
+  formed_is a None common k h e = e ∙ on_flow a k h
+  formed_is a (Some x) common k h e = on_flow x k h
 
 -- the columns that count, each asked once
-pub once_filled : (s : Settings) (wall : Wall) (form : Float) → wall ≡ wall_of s.roughness → form ≡ value_of (body_friction_form_factor s.body_fineness)
-    → tab s.count (λ k. value_of (friction_on wall (get_or (take s.count s.reynolds) k nan) (get_or (take s.count s.machs) k nan)) ⊗ form) ≡ tab s.count (λ k. formed_friction s s.roughness (mach_at s k) (reynolds_at s k))
-once_filled s wall form e q =
+pub once_filled : (s : Settings) (a : Float) (wall : Wall) (form : Float) → wall ≡ wall_of a → form ≡ value_of (body_friction_form_factor s.body_fineness)
+    → tab s.count (λ k. value_of (friction_on wall (get_or (take s.count s.reynolds) k nan) (get_or (take s.count s.machs) k nan)) ⊗ form) ≡ tab s.count (λ k. formed_friction s a (mach_at s k) (reynolds_at s k))
+once_filled s a wall form e q =
     tab_same s.count _ _ (λ k h.
     rw (get_or-take s.count s.reynolds k nan h, get_or-take s.count s.machs k nan h, e, q)
-    (ap (λ (c : Coefficient). value_of c ⊗ value_of (body_friction_form_factor s.body_fineness)) (on_wall_lem s.roughness (reynolds_at s k) (mach_at s k))))
+    (ap (λ (c : Coefficient). value_of c ⊗ value_of (body_friction_form_factor s.body_fineness)) (on_wall_lem a (reynolds_at s k) (mach_at s k))))
 
--- ---- the row added up is the row of the formula
+-- ---- the row added up is the row of the formula, in finish j
 
-module _ (c : Contents) where
+module _ (c : Contents) (j : ℕ) where
   abbrev s : Settings
   s = c.settings
 
@@ -77,21 +72,21 @@ module _ (c : Contents) where
 
   -- from what is added for each part at each column
   added : (common : List Float) (f : ℕ → ℕ → Float) → length common ≡ c.settings.count
-      → ((k i : ℕ) → k < c.settings.count → i < length c.parts → f k i ≡ formed_friction c.settings (roughness_of (part_at c.parts i).roughness c.settings.roughness) (mach_at c.settings k) (reynolds_at c.settings k))
-      → tab (length common) (λ k. sum_to (length c.parts) (λ i. f k i ⊗ (part_at c.parts i).wetted_ratio)) ≡ friction_row_cells c
+      → ((k i : ℕ) → k < c.settings.count → i < length c.parts → f k i ≡ formed_friction c.settings (roughness_of (part_at c.parts i).roughness (roughness_at c.settings j)) (mach_at c.settings k) (reynolds_at c.settings k))
+      → tab (length common) (λ k. sum_to (length c.parts) (λ i. f k i ⊗ (part_at c.parts i).wetted_ratio)) ≡ friction_row_cells c j
   unfolding friction_cell
   added common f long same =
       rw long (tab_same s.count _ _ (λ k h. sum_same (length ps) _ _ (λ i l. ap (λ (x : Float). x ⊗ (part_at ps i).wetted_ratio) (same k i h l))))
 
   pub own_added : (flows : List (Result Flow AeroError)) (form : Float) (common : List Float) → form ≡ value_of (body_friction_form_factor c.settings.body_fineness) → Flows c.settings flows
-      → common ≡ tab c.settings.count (λ k. formed (wall_of c.settings.roughness) form (flow_at flows k))
-      → tab (length common) (λ k. sum_to (length c.parts) (λ i. formed_for (part_at c.parts i).roughness (get_or common k nan) form (flow_at flows k) ⊗ (part_at c.parts i).wetted_ratio)) ≡ friction_row_cells c
+      → common ≡ tab c.settings.count (λ k. formed (wall_of (roughness_at c.settings j)) form (flow_at flows k))
+      → tab (length common) (λ k. sum_to (length c.parts) (λ i. formed_for (part_at c.parts i).roughness (get_or common k nan) form (flow_at flows k) ⊗ (part_at c.parts i).wetted_ratio)) ≡ friction_row_cells c j
   own_added flows form common e F q =
       added common (λ k i. formed_for (part_at ps i).roughness (get_or common k nan) form (flow_at flows k)) (ap length q ∙ tab_long s.count _)
-      (λ k i h l. rw e (formed_is s flows F (part_at ps i).roughness (get_or common k nan) k h (ap (λ (xs : List Float). get_or xs k nan) q ∙ tab_at s.count _ nan k h ∙ rw e)))
+      (λ k i h l. rw e (formed_is s flows F (roughness_at s j) (part_at ps i).roughness (get_or common k nan) k h (ap (λ (xs : List Float). get_or xs k nan) q ∙ tab_at s.count _ nan k h ∙ rw e)))
 
-  pub common_added : (common : List Float) → any_own c.parts ≡ false → common ≡ tab c.settings.count (λ k. formed_friction c.settings c.settings.roughness (mach_at c.settings k) (reynolds_at c.settings k))
-      → tab (length common) (λ k. sum_to (length c.parts) (λ i. get_or common k nan ⊗ (part_at c.parts i).wetted_ratio)) ≡ friction_row_cells c
+  pub common_added : (common : List Float) → any_own c.parts ≡ false → common ≡ tab c.settings.count (λ k. formed_friction c.settings (roughness_at c.settings j) (mach_at c.settings k) (reynolds_at c.settings k))
+      → tab (length common) (λ k. sum_to (length c.parts) (λ i. get_or common k nan ⊗ (part_at c.parts i).wetted_ratio)) ≡ friction_row_cells c j
   common_added common none q =
       added common (λ k i. get_or common k nan) (ap length q ∙ tab_long s.count _)
-      (λ k i h l. ap (λ (xs : List Float). get_or xs k nan) q ∙ tab_at s.count _ nan k h ∙ rw (not_own ps i s.roughness l none))
+      (λ k i h l. ap (λ (xs : List Float). get_or xs k nan) q ∙ tab_at s.count _ nan k h ∙ rw (not_own ps i (roughness_at s j) l none))

@@ -10,27 +10,36 @@ use lib.Dec.{ltb, leb}
 use lib.Ieee.{Float}
 use borrow.Author.Tests.{ltb-false, leb-false}
 use Rattle.aero_error.specs.declared.AeroError.{AeroError}
-use Rattle.aero_error.specs.declared.Rule.TheVariants.{TooManyColumns, TooFewCells, DesignFull, NoSuchPlace}
+use Rattle.aero_error.specs.declared.Rule.TheVariants.{TooManyColumns, DesignFull, NoSuchPlace}
 use Rattle.aero_error.specs.CheckLaws.{both_passed, unless_passed, up_none}
 use Rattle.drag.specs.Friction.{flow_checked}
 use Rattle.sheet_data.specs.declared.Settings.{Settings}
 use Rattle.sheet_data.specs.declared.Sheet.{Sheet}
-use Rattle.sheet_data.specs.Layout.{most_parts, most_columns, needed}
+use Rattle.sheet_data.specs.Layout.{most_parts, most_columns, most_finishes, needed}
 use Rattle.sheet_data.specs.Contents.{Contents, contents_of, blank, Fits}
-use Rattle.sheet_data.specs.Tests.{body_test, columns_test, settings_test, nozzle_test, part_test, sheet_test}
+use Rattle.sheet_data.proofs.Held.{held_finishes, held_cells}
+use Rattle.sheet_data.specs.Tests.{body_test, settings_test, nozzle_test, part_test, sheet_test}
 use Rattle.drag_sheet.specs.Calls.{Answer, Call, replace, insert, remove, set_column, ignite, burnout, applied, arguments_test, tries, scope, after, call_test, sheet_with, left_by, answered, Called, Opened}
 use Rattle.drag_sheet.specs.Build.{trial}
 use Rattle.drag_sheet.specs.Writing.{chosen, whole, overwritten, AllWritten}
 
 -- ---- what passed tests show
 
-pub settings_facts : (s : Settings) (cells : ℕ) → settings_test s cells ≡ Ok tt → (s.count ≤ most_columns) × (needed s.count ≤ cells)
+pub record SettingsFacts (s : Settings) (cells : ℕ) : Type 0 where
+  pub finishes : s.finishes ≤ most_finishes
+  pub columns : s.count ≤ most_columns
+  pub room : needed s.finishes s.count ≤ cells
+
+pub settings_facts : (s : Settings) (cells : ℕ) → settings_test s cells ≡ Ok tt → SettingsFacts s cells
 unfolding settings_test
 settings_facts s cells e =
     let a = both_passed (unless (ltb most_columns s.count) TooManyColumns) _ e in
     let b = both_passed (body_test s) _ a.second in
-    let d = both_passed (columns_test s) _ b.second in
-    (ltb-false most_columns s.count (unless_passed _ TooManyColumns a.first), ltb-false cells (needed s.count) (unless_passed _ TooFewCells d.second))
+    record {
+      finishes = (held_finishes s b.first).1;
+      columns = ltb-false most_columns s.count (unless_passed _ TooManyColumns a.first);
+      room = held_cells s cells e;
+    }
 
 pub sheet_fits : (sheet : Sheet) (cells : ℕ) → sheet_test (contents_of sheet) cells sheet.design.count ≡ Ok tt → Fits sheet cells
 unfolding sheet_test
@@ -39,7 +48,7 @@ sheet_fits sheet cells e =
     let f = settings_facts sheet.settings cells a.first in
     let n = both_passed (nozzle_test sheet.nozzle_diameter) _ a.second in
     let b = both_passed (unless (ltb most_parts sheet.design.count) DesignFull) _ n.second in
-    record { columns = f.0; parts = ltb-false most_parts sheet.design.count (unless_passed _ DesignFull b.first); room = f.1 }
+    record { finishes = f.finishes; columns = f.columns; parts = ltb-false most_parts sheet.design.count (unless_passed _ DesignFull b.first); room = f.room }
 
 -- what a call's arguments are where its own tests passed
 abbrev pub Bounds : Call → Settings → ℕ → Type 0
@@ -71,20 +80,26 @@ call_facts call sheet cells e =
     let a = both_passed (sheet_test (contents_of sheet) cells sheet.design.count) _ e in
     record { fits = sheet_fits sheet cells a.first; within = bounds call sheet.settings sheet.design.count a.second }
 
--- no call changes how many columns there are
-pub same_width : (call : Call) (c : Contents) → (applied call c).settings.count ≡ c.settings.count
-same_width (replace place p) c = refl
-same_width (insert place p) c = refl
-same_width (remove place) c = refl
-same_width (set_column k M R) c = refl
-same_width (ignite n) c = refl
-same_width burnout c = refl
+-- no call changes how many finishes and columns there are
+pub record SameLayout (c left : Contents) : Type 0 where
+  pub finishes : left.settings.finishes ≡ c.settings.finishes
+  pub columns : left.settings.count ≡ c.settings.count
+
+pub same_layout : (call : Call) (c : Contents) → SameLayout c (applied call c)
+same_layout (replace place p) c = record { finishes = refl; columns = refl }
+same_layout (insert place p) c = record { finishes = refl; columns = refl }
+same_layout (remove place) c = record { finishes = refl; columns = refl }
+same_layout (set_column k M R) c = record { finishes = refl; columns = refl }
+same_layout (ignite n) c = record { finishes = refl; columns = refl }
+same_layout burnout c = record { finishes = refl; columns = refl }
 
 -- so the sheet that is left fits, where it has few parts
 pub fits_left : (call : Call) {sheet left : Sheet} {cells : ℕ} → Facts call sheet cells → left ≡ left_by call sheet → left.design.count ≤ most_parts → Fits left cells
 fits_left call {sheet} f e few =
-    let w = ap (λ (s : Sheet). s.settings.count) e ∙ same_width call (contents_of sheet) in
-    record { columns = rw w f.fits.columns; parts = few; room = rw w f.fits.room }
+    let same = same_layout call (contents_of sheet) in
+    let F = ap (λ (s : Sheet). s.settings.finishes) e ∙ same.finishes in
+    let C = ap (λ (s : Sheet). s.settings.count) e ∙ same.columns in
+    record { finishes = rw F f.fits.finishes; columns = rw C f.fits.columns; parts = few; room = rw (F, C) f.fits.room }
 
 -- ---- the contract
 

@@ -15,7 +15,7 @@ use Rattle.aero_error.specs.declared.AeroError.{AeroError}
 use Rattle.aero_error.specs.CheckLaws.{both_passed}
 use Rattle.sheet_data.specs.declared.Part.{Part}
 use Rattle.sheet_data.specs.declared.Sheet.{Sheet}
-use Rattle.sheet_data.specs.Layout.{most_parts, finishes, friction_row, base_row, total_row, all_rows, needed}
+use Rattle.sheet_data.specs.Layout.{most_parts, friction_row, base_row, total_row, all_rows, needed}
 use Rattle.sheet_data.specs.Contents.{Contents, contents_of, parts_of}
 use Rattle.sheet_data.specs.Rows.{Unnamed, row_at}
 use Rattle.drag_sheet.specs.Calls.{Answer, Call, replace, insert, remove, set_column, ignite, burnout, applied, nozzle_rows, scope, tries, after, call_test, decision, sheet_with, Called}
@@ -24,7 +24,7 @@ use Rattle.drag_sheet.specs.Lists.{Arrays}
 use Rattle.drag_sheet.proofs.Verdicts.{never}
 use Rattle.drag_sheet.proofs.Slots.{inserted_long, removed_long}
 use Rattle.drag_sheet.proofs.Overwritten.{Inside, Keeps, keeps, other_rows}
-use Rattle.drag_sheet.proofs.Answers.{Facts, call_facts, Bounds, same_width}
+use Rattle.drag_sheet.proofs.Answers.{Facts, call_facts, Bounds, SameLayout, same_layout}
 use Rattle.drag_sheet.proofs.Duties.{scope_inside, body_not_part}
 
 -- accepted, with the cells that the call leaves; or refused, with the sheet and the cells that were given
@@ -81,44 +81,43 @@ shown call sheet xs slots p =
 
 -- an accepted call keeps the number of columns, the number of cells, and what lies past the rows
 pub record Left (call : Call) (sheet : Sheet) (xs : List Float) : Type 0 where
-  pub width : (after call sheet).settings.count ≡ sheet.settings.count
-  pub cells : Keeps sheet.settings.count xs (overwritten (scope call (after call sheet)) (after call sheet) xs)
+  pub layout : SameLayout (contents_of sheet) (after call sheet)
+  pub cells : Keeps sheet.settings.finishes sheet.settings.count xs (overwritten (scope call (after call sheet)) (after call sheet) xs)
 
 pub left : (call : Call) (sheet : Sheet) (xs : List Float) → Accepted call sheet xs → Left call sheet xs
 left call sheet xs a =
-    let w = same_width call (contents_of sheet) in
+    let w = same_layout call (contents_of sheet) in
     let new = after call sheet in
-    let room = a.facts.fits.room in
-    let k = keeps new xs (omega (arith, ap needed w)) (scope call new) (subst (Inside (scope call new)) (sym w) (scope_inside call (contents_of sheet) a.within a.few)) in
-    record { width = w; cells = record { long = k.long; past = subst (λ n. drop (needed n) (overwritten (scope call new) new xs) ≡ drop (needed n) xs) w k.past } }
+    let k = keeps new xs (rw (w.finishes, w.columns) a.facts.fits.room) (scope call new) (rw (w.finishes, w.columns) (scope_inside call (contents_of sheet) a.within a.few)) in
+    record { layout = w; cells = rw (w.finishes, w.columns) at k }
 
--- a row that is none of the friction, base and total rows
-pub record NotBody (row : ℕ) : Type 0 where
-  pub friction : (j : ℕ) → j < finishes → row ≢ friction_row j
-  pub base : row ≢ base_row finishes
-  pub total : (j : ℕ) → j < finishes → row ≢ total_row finishes j
+-- a row of F finishes that is none of the friction, base and total rows
+pub record NotBody (F row : ℕ) : Type 0 where
+  pub friction : (j : ℕ) → j < F → row ≢ friction_row j
+  pub base : row ≢ base_row F
+  pub total : (j : ℕ) → j < F → row ≢ total_row F j
 
 -- is a part's
-not_body : (row : ℕ) → row < all_rows finishes → NotBody row → row < most_parts
-not_body row h n =
+not_body : (F row : ℕ) → row < all_rows F → NotBody F row → row < most_parts
+not_body F row h n =
     dite (dec_lt row most_parts) (λ l. l) (λ l.
-    dite (dec_lt row (base_row finishes))
+    dite (dec_lt row (base_row F))
     (λ m. absurd (n.friction (row - most_parts) (omega arith) (omega arith)))
-    (λ m. dite (ℕ_discrete row (base_row finishes))
+    (λ m. dite (ℕ_discrete row (base_row F))
     (λ q. absurd (n.base q))
-    (λ q. absurd (n.total (row - total_row finishes 0) (omega arith) (omega arith)))))
+    (λ q. absurd (n.total (row - total_row F 0) (omega arith) (omega arith)))))
 
 module _ (sheet : Sheet) (arrays : Arrays sheet) (xs : List Float) (r : Answer) (ys : List Float) where
-  -- "Cells past 19 × C are never written"
-  pub past_kept : (call : Call) → Called call sheet xs r ys → drop (needed sheet.settings.count) ys ≡ drop (needed sheet.settings.count) xs
+  -- "Cells past (17 + 2 × F) × C are never written"
+  pub past_kept : (call : Call) → Called call sheet xs r ys → drop (needed sheet.settings.finishes sheet.settings.count) ys ≡ drop (needed sheet.settings.finishes sheet.settings.count) xs
   past_kept call c = by (ended call sheet xs r ys c)
     where
-      by : Ended call sheet xs r ys → drop (needed sheet.settings.count) ys ≡ drop (needed sheet.settings.count) xs
+      by : Ended call sheet xs r ys → drop (needed sheet.settings.finishes sheet.settings.count) ys ≡ drop (needed sheet.settings.finishes sheet.settings.count) xs
       by (refusal e p a l) = rw l
       by (accepted p a l) = rw l (left call sheet xs (shown call sheet xs arrays.slots p)).cells.past
 
   -- of a call that writes rows and then the totals, a row that it doesn't name stays
-  unnamed_kept : (call : Call) (named : List ℕ) → scope call (after call sheet) ≡ rows named → Called call sheet xs r ys → (row : ℕ) → row < total_row finishes 0 → Unnamed named row
+  unnamed_kept : (call : Call) (named : List ℕ) → scope call (after call sheet) ≡ rows named → Called call sheet xs r ys → (row : ℕ) → row < total_row sheet.settings.finishes 0 → Unnamed named row
       → row_at sheet.settings.count ys row ≡ row_at sheet.settings.count xs row
   unnamed_kept call named e c row h u = by (ended call sheet xs r ys c)
     where
@@ -127,15 +126,16 @@ module _ (sheet : Sheet) (arrays : Arrays sheet) (xs : List Float) (r : Answer) 
       by (accepted q a l) =
           let s = shown call sheet xs arrays.slots q in
           let new = after call sheet in
-          let w = same_width call (contents_of sheet) in
-          let below = subst (λ (z : Scope). Inside z sheet.settings.count) e (scope_inside call (contents_of sheet) s.within s.few) in
-          rw (l, e) (subst (λ n. row_at n (overwritten (rows named) new xs) row ≡ row_at n xs row) w (other_rows new xs (omega (arith, ap needed w, s.facts.fits.room)) named below row h u))
+          let w = same_layout call (contents_of sheet) in
+          let below = subst (λ (z : Scope). Inside z sheet.settings.finishes sheet.settings.count) e (scope_inside call (contents_of sheet) s.within s.few) in
+          rw (l, e) (subst (λ n. row_at n (overwritten (rows named) new xs) row ≡ row_at n xs row) w.columns
+          (other_rows new xs (rw (w.finishes, w.columns) s.facts.fits.room) named (rw w.finishes below) row (rw w.finishes h) u))
 
   -- "Replacing a part changes no cells but its own row, the next part's, and the friction, base and total rows": with no part after it the row there stays too
-  pub other_rows_kept : (place : ℕ) (p : Part) → Called (replace place p) sheet xs r ys → (row : ℕ) → row < all_rows finishes → NotBody row → row ≢ place → (row ≡ place + 1 → sheet.design.count ≤ place + 1)
+  pub other_rows_kept : (place : ℕ) (p : Part) → Called (replace place p) sheet xs r ys → (row : ℕ) → row < all_rows sheet.settings.finishes → NotBody sheet.settings.finishes row → row ≢ place → (row ≡ place + 1 → sheet.design.count ≤ place + 1)
       → row_at sheet.settings.count ys row ≡ row_at sheet.settings.count xs row
   other_rows_kept place p c row h part i j =
-      let few = not_body row h part in
+      let few = not_body sheet.settings.finishes row h part in
       let none : row ≡ place + 1 → length (set (parts_of sheet.design) place p) ≤ place + 1 = λ e. omega (arith, j e, length-set (parts_of sheet.design) place p, taken_few) in
       unnamed_kept (replace place p) _ refl c row (omega arith) (body_not_part (contents_of sheet) place p row few i none)
     where
@@ -143,8 +143,8 @@ module _ (sheet : Sheet) (arrays : Arrays sheet) (xs : List Float) (r : Answer) 
       taken_few = rw (length-take sheet.design.count sheet.design.parts) (omega arith)
 
   -- ignite and burnout "write the base and total rows": no part row and no friction row is changed
-  pub ignite_rows_kept : (n : Float) → Called (ignite n) sheet xs r ys → (row : ℕ) → row < base_row finishes → row_at sheet.settings.count ys row ≡ row_at sheet.settings.count xs row
-  ignite_rows_kept n c row h = unnamed_kept (ignite n) nozzle_rows refl c row (omega arith) ((λ e. omega arith), tt)
+  pub ignite_rows_kept : (n : Float) → Called (ignite n) sheet xs r ys → (row : ℕ) → row < base_row sheet.settings.finishes → row_at sheet.settings.count ys row ≡ row_at sheet.settings.count xs row
+  ignite_rows_kept n c row h = unnamed_kept (ignite n) (nozzle_rows sheet.settings.finishes) refl c row (omega arith) ((λ e. omega arith), tt)
 
-  pub burnout_rows_kept : Called burnout sheet xs r ys → (row : ℕ) → row < base_row finishes → row_at sheet.settings.count ys row ≡ row_at sheet.settings.count xs row
-  burnout_rows_kept c row h = unnamed_kept burnout nozzle_rows refl c row (omega arith) ((λ e. omega arith), tt)
+  pub burnout_rows_kept : Called burnout sheet xs r ys → (row : ℕ) → row < base_row sheet.settings.finishes → row_at sheet.settings.count ys row ≡ row_at sheet.settings.count xs row
+  burnout_rows_kept c row h = unnamed_kept burnout (nozzle_rows sheet.settings.finishes) refl c row (omega arith) ((λ e. omega arith), tt)

@@ -27,20 +27,20 @@ module _ (c : Contents) (xs : List Float) (place : ℕ) where
   C = c.settings.count
 
   pub next_steps : (own row a b d : List Float) (i j : ℕ) → i ≡ place * c.settings.count → j ≡ (place + 1) * c.settings.count → row ≡ row_of c (place + 1)
-      → a ≡ written i own xs → b ≡ written j row a → d ≡ totalled c.settings.count (rows_written c.settings.count (row_of c) body_rows b)
-      → d ≡ overwritten (rows (body_rows ++ (place + 1) ∷ [])) c (written (place * c.settings.count) own xs)
+      → a ≡ written i own xs → b ≡ written j row a → d ≡ totalled c.settings.finishes c.settings.count (rows_written c.settings.count (row_of c) (body_rows c.settings.finishes) b)
+      → d ≡ overwritten (rows (body_rows c.settings.finishes ++ (place + 1) ∷ [])) c (written (place * c.settings.count) own xs)
   unfolding overwritten rows_written
-  next_steps own row a b d i j p q e k l m = m ∙ rw (l, k, p, q, e, rows_append C (row_of c) body_rows ((place + 1) ∷ []) (written (place * C) own xs))
+  next_steps own row a b d i j p q e k l m = m ∙ rw (l, k, p, q, e, rows_append C (row_of c) (body_rows c.settings.finishes) ((place + 1) ∷ []) (written (place * C) own xs))
 
   pub own_steps : (row a d : List Float) (i : ℕ) → i ≡ place * c.settings.count → row ≡ row_of c place → a ≡ written i row xs
-      → d ≡ totalled c.settings.count (rows_written c.settings.count (row_of c) body_rows a) → d ≡ overwritten (rows (body_rows ++ place ∷ [])) c xs
+      → d ≡ totalled c.settings.finishes c.settings.count (rows_written c.settings.count (row_of c) (body_rows c.settings.finishes) a) → d ≡ overwritten (rows (body_rows c.settings.finishes ++ place ∷ [])) c xs
   unfolding overwritten rows_written
-  own_steps row a d i p e k m = m ∙ rw (k, p, e, rows_append C (row_of c) body_rows (place ∷ []) xs)
+  own_steps row a d i p e k m = m ∙ rw (k, p, e, rows_append C (row_of c) (body_rows c.settings.finishes) (place ∷ []) xs)
 
   pub pair_rows : (own : List Float) → own ≡ row_of c place
-      → overwritten (rows (body_rows ++ (place + 1) ∷ [])) c (written (place * c.settings.count) own xs) ≡ overwritten (rows (body_rows ++ (place + 1) ∷ place ∷ [])) c xs
+      → overwritten (rows (body_rows c.settings.finishes ++ (place + 1) ∷ [])) c (written (place * c.settings.count) own xs) ≡ overwritten (rows (body_rows c.settings.finishes ++ (place + 1) ∷ place ∷ [])) c xs
   unfolding overwritten rows_written
-  pair_rows own e = rw (e, rows_append C (row_of c) body_rows ((place + 1) ∷ []) (written (place * C) (row_of c place) xs), rows_append C (row_of c) body_rows ((place + 1) ∷ place ∷ []) xs)
+  pair_rows own e = rw (e, rows_append C (row_of c) (body_rows c.settings.finishes) ((place + 1) ∷ []) (written (place * C) (row_of c place) xs), rows_append C (row_of c) (body_rows c.settings.finishes) ((place + 1) ∷ place ∷ []) xs)
 
 -- ---- the sheets that are left
 
@@ -92,13 +92,13 @@ called_changed sheet left place p xs test r ys ok n f a =
     let t : test ≡ tries (replace place p) new = f.verdict ∙ ap (λ (x : Contents). row_test x place then row_test_where x (place + 1)) e in
     called (replace place p) sheet xs r ys test left ok t n a
     (f.cells
-    ∙ ap (λ (x : Contents). chosen (row_test x place then row_test_where x (place + 1)) xs (overwritten (rows (body_rows ++ replaced_rows place left.design.count)) x xs)) e
-    ∙ ap (λ (m : ℕ). chosen (tries (replace place p) new) xs (overwritten (rows (body_rows ++ replaced_rows place m)) new xs)) k
+    ∙ ap (λ (x : Contents). chosen (row_test x place then row_test_where x (place + 1)) xs (overwritten (rows (body_rows x.settings.finishes ++ replaced_rows place left.design.count)) x xs)) e
+    ∙ ap (λ (m : ℕ). chosen (tries (replace place p) new) xs (overwritten (rows (body_rows new.settings.finishes ++ replaced_rows place m)) new xs)) k
     ∙ rw t)
 
 -- ---- a nozzle diameter put: the contract
 
 pub called_nozzle : (call : Call) (n : Float) (sheet left : Sheet) (xs ys : List Float) → call_test call sheet (length xs) ≡ Ok tt → tries call (after call sheet) ≡ Ok tt
-    → after call sheet ≡ with_nozzle n (contents_of sheet) → scope call (after call sheet) ≡ rows nozzle_rows → NozzlePut n sheet xs left ys → Called call sheet xs (record { outcome = Ok tt; sheet = left }) ys
+    → after call sheet ≡ with_nozzle n (contents_of sheet) → scope call (after call sheet) ≡ rows (nozzle_rows sheet.settings.finishes) → NozzlePut n sheet xs left ys → Called call sheet xs (record { outcome = Ok tt; sheet = left }) ys
 called_nozzle call n sheet left xs ys passed none new only f =
     called call sheet xs _ ys (Ok tt) left passed (sym none) (f.sheet_left ∙ ap (λ (c : Contents). sheet_with c sheet) (sym new)) refl (f.cells ∙ rw (only, new))

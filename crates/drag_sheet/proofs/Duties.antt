@@ -15,7 +15,7 @@ use borrow.Author.Tests.{lt-ltb, le-ltb}
 use Rattle.aero_error.specs.Checks.{◌then◌, up_to}
 use Rattle.aero_error.specs.CheckLaws.{both_passed, then_passed, up_each, up_only, up_two, up_same}
 use Rattle.sheet_data.specs.declared.Part.{Part}
-use Rattle.sheet_data.specs.Layout.{most_parts, finishes, friction_row, base_row, total_row}
+use Rattle.sheet_data.specs.Layout.{most_parts, friction_row, base_row, total_row}
 use Rattle.sheet_data.specs.Contents.{Contents, fore_at, mach_at, reynolds_at}
 use Rattle.sheet_data.specs.Tables.{tab_same}
 use Rattle.sheet_data.specs.Rows.{from, Unnamed, Below}
@@ -38,11 +38,11 @@ named_append (n ∷ ns) ms r u v = (u.0, named_append ns ms r u.1 v)
 
 module _ (c : Contents) (place : ℕ) (p : Part) where
   -- a part's row that is not its own isn't named, and the one after it only where a part stands there
-  pub body_not_part : (r : ℕ) → r < most_parts → r ≢ place → (r ≡ place + 1 → length (set c.parts place p) ≤ place + 1) → Unnamed (body_rows ++ replaced_rows place (length (set c.parts place p))) r
+  pub body_not_part : (r : ℕ) → r < most_parts → r ≢ place → (r ≡ place + 1 → length (set c.parts place p) ≤ place + 1) → Unnamed (body_rows c.settings.finishes ++ replaced_rows place (length (set c.parts place p))) r
   unfolding body_rows
   body_not_part r h a b = (
     (λ e. omega arith),
-    named_append (from (friction_row 0) finishes) (replaced_rows place (length (set c.parts place p))) r (before_all (friction_row 0) finishes r h)
+    named_append (from (friction_row 0) c.settings.finishes) (replaced_rows place (length (set c.parts place p))) r (before_all (friction_row 0) c.settings.finishes r h)
         (dite (dec_lt (place + 1) (length (set c.parts place p)))
         (λ l. rw (lt-ltb (place + 1) (length (set c.parts place p)) l) ((λ e. omega (arith, b e)), (a, tt)))
         (λ l. rw (le-ltb (place + 1) (length (set c.parts place p)) (omega arith)) (a, tt))),
@@ -67,18 +67,18 @@ module _ (c : Contents) (place : ℕ) (p : Part) (inside : place < length c.part
       (λ l. let v : Unnamed ((place + 1) ∷ place ∷ []) r = rw (lt-ltb (place + 1) (length c.parts) l) at u in (v.1.0, v.0))
       (λ l. let v : Unnamed (place ∷ []) r = rw (le-ltb (place + 1) (length c.parts) (omega arith)) at u in (v.0, λ e. omega arith))
 
-  same_row : (r : ℕ) → r < total_row finishes 0 → Unnamed (body_rows ++ replaced_rows place (length c.parts)) r → row_of c r ≡ row_of new r
+  same_row : (r : ℕ) → r < total_row c.settings.finishes 0 → Unnamed (body_rows c.settings.finishes ++ replaced_rows place (length c.parts)) r → row_of c r ≡ row_of new r
   unfolding kind_cell part_cell
   same_row r h u =
-      let v = unnamed_append body_rows (replaced_rows place (length c.parts)) r u in
-      let few = body_outside r h v.0 in
-      tab_same c.settings.count _ _ (λ k m. rw (kind_part finishes r few, length-set c.parts place p)
+      let v = unnamed_append (body_rows c.settings.finishes) (replaced_rows place (length c.parts)) r u in
+      let few = body_outside c.settings.finishes r h v.0 in
+      tab_same c.settings.count _ _ (λ k m. rw (kind_part c.settings.finishes r few, length-set c.parts place p)
       (dite (dec_lt r (length c.parts))
       (λ l. let w = unnamed_part r l v.1 in rw (same_prepared r w.0 w.1))
       (λ l. rw (le-ltb r (length c.parts) (omega arith)))))
 
-  replace_below : length c.parts ≤ most_parts → Below (total_row finishes 0) (body_rows ++ replaced_rows place (length c.parts))
-  replace_below few = below_append (total_row finishes 0) body_rows (replaced_rows place (length c.parts)) body_below
+  replace_below : length c.parts ≤ most_parts → Below (total_row c.settings.finishes 0) (body_rows c.settings.finishes ++ replaced_rows place (length c.parts))
+  replace_below few = below_append (total_row c.settings.finishes 0) (body_rows c.settings.finishes) (replaced_rows place (length c.parts)) (body_below c.settings.finishes)
       (dite (dec_lt (place + 1) (length c.parts))
       (λ l. rw (lt-ltb (place + 1) (length c.parts) l) (omega arith, (omega arith, tt)))
       (λ l. rw (le-ltb (place + 1) (length c.parts) (omega arith)) (omega arith, tt)))
@@ -110,7 +110,7 @@ module _ (c : Contents) (k : ℕ) (M R : Float) where
   other_kind (total j) N S = refl
 
   other_column : (r i : ℕ) → i ≢ k → cell_at c r i ≡ cell_at put r i
-  other_column r i u = rw (same_mach c.settings k M R i u, same_reynolds c.settings k M R i u) (other_kind (kind_at finishes r) (mach_at c.settings i) (reynolds_at c.settings i))
+  other_column r i u = rw (same_mach c.settings k M R i u, same_reynolds c.settings k M R i u) (other_kind (kind_at c.settings.finishes r) (mach_at c.settings i) (reynolds_at c.settings i))
 
   column_tries : k < c.settings.count → trial c ≡ Ok tt → tries (set_column k M R) put ≡ trial put
   unfolding tries trial row_test column_trial
@@ -120,16 +120,16 @@ module _ (c : Contents) (k : ℕ) (M R : Float) where
 
 -- ---- ignite and burnout
 
-nozzle_below : Below (total_row finishes 0) nozzle_rows
-nozzle_below = (omega arith, tt)
+nozzle_below : (F : ℕ) → Below (total_row F 0) (nozzle_rows F)
+nozzle_below F = (omega arith, tt)
 
 module _ (n : Float) (c : Contents) where
   -- no part's row depends on the nozzle diameter
   nozzle_tries : trial c ≡ Ok tt → Ok tt ≡ trial (with_nozzle n c)
   nozzle_tries ok = sym (same_trial n c ∙ ok)
 
-  nozzle_holds : (xs : List Float) → Holds c xs → Holds (with_nozzle n c) (overwritten (rows nozzle_rows) (with_nozzle n c) xs)
-  nozzle_holds xs h = rows_hold (with_nozzle n c) xs h.room nozzle_rows nozzle_below (λ r l u. let k : r ≢ base_row finishes = u.0 in h.rows r (omega arith) ∙ sym (above_base n c r (omega arith)))
+  nozzle_holds : (xs : List Float) → Holds c xs → Holds (with_nozzle n c) (overwritten (rows (nozzle_rows c.settings.finishes)) (with_nozzle n c) xs)
+  nozzle_holds xs h = rows_hold (with_nozzle n c) xs h.room (nozzle_rows c.settings.finishes) (nozzle_below c.settings.finishes) (λ r l u. let k : r ≢ base_row c.settings.finishes = u.0 in h.rows r (omega arith) ∙ sym (above_base n c r (omega arith)))
 
 -- ---- every call
 
@@ -143,13 +143,13 @@ narrow (set_column k M R) c b ok = column_tries c k M R b ok
 narrow (ignite n) c b ok = nozzle_tries n c ok
 narrow burnout c b ok = nozzle_tries _ c ok
 
-pub scope_inside : (call : Call) (c : Contents) → Bounds call c.settings (length c.parts) → length c.parts ≤ most_parts → Inside (scope call (applied call c)) c.settings.count
+pub scope_inside : (call : Call) (c : Contents) → Bounds call c.settings (length c.parts) → length c.parts ≤ most_parts → Inside (scope call (applied call c)) c.settings.finishes c.settings.count
 scope_inside (replace place p) c b few = rw (length-set c.parts place p) (replace_below c place p b few)
 scope_inside (insert place p) c b few = tt
 scope_inside (remove place) c b few = tt
 scope_inside (set_column k M R) c b few = b
-scope_inside (ignite n) c b few = nozzle_below
-scope_inside burnout c b few = nozzle_below
+scope_inside (ignite n) c b few = nozzle_below c.settings.finishes
+scope_inside burnout c b few = nozzle_below c.settings.finishes
 
 -- THE LAW over calls
 pub call_holds : (call : Call) (c : Contents) (xs : List Float) → Bounds call c.settings (length c.parts) → length c.parts ≤ most_parts → Holds c xs
@@ -159,6 +159,6 @@ call_holds (replace place p) c xs b few h =
     (rows_hold (applied (replace place p) c) xs h.room _ (replace_below c place p b few) (λ r l u. h.rows r (omega arith) ∙ same_row c place p b r l u))
 call_holds (insert place p) c xs b few h = whole_holds (applied (insert place p) c) xs h.room
 call_holds (remove place) c xs b few h = whole_holds (applied (remove place) c) xs h.room
-call_holds (set_column k M R) c xs b few h = column_holds (applied (set_column k M R) c) xs h.room k c refl h (other_column c k M R)
+call_holds (set_column k M R) c xs b few h = column_holds (applied (set_column k M R) c) xs h.room k c refl refl h (other_column c k M R)
 call_holds (ignite n) c xs b few h = nozzle_holds n c xs h
 call_holds burnout c xs b few h = nozzle_holds _ c xs h

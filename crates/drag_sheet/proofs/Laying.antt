@@ -15,7 +15,7 @@ use lib.Ieee.{Float, nan}
 use Rattle.elementary.specs.Constants.{0·0}
 use Rattle.aero_error.specs.CheckLaws.{up_none, up_more}
 use Rattle.sheet_data.specs.declared.Part.{Part}
-use Rattle.sheet_data.specs.Layout.{most_parts, finishes, friction_row, base_row, total_row, all_rows, needed}
+use Rattle.sheet_data.specs.Layout.{RowPlace, most_parts, friction_row, base_row, total_row, all_rows, needed}
 use Rattle.sheet_data.specs.Contents.{Contents, part_at, fore_at}
 use Rattle.sheet_data.specs.Rows.{from, Unnamed, Below, row_at, written, rows_written}
 use Rattle.sheet_data.specs.RowLaws.{room, put_row, rows_append, RowsDone, rows_none, rows_next, after_named, before_named, from_below, below_append, unnamed_append, written_long, cell_set, wrote}
@@ -26,6 +26,10 @@ use Rattle.drag_sheet.specs.Calls.{body_rows}
 use Rattle.drag_sheet.proofs.Verdicts.{filled_same}
 use Rattle.drag_sheet.proofs.RowKinds.{part_row, no_part}
 use Rattle.drag_sheet.proofs.Overwritten.{Holds, holds_build, rows_hold, keeps}
+
+-- where a row begins, by the numbers of finishes and columns that its layout has
+pub placed : {F C n m row at : ℕ} → (n ≡ F) × (m ≡ C) → RowPlace n m row at → RowPlace F C row at
+placed same p = rw (same.0, same.1) at p
 
 -- ---- part rows
 
@@ -65,26 +69,26 @@ module _ (c : Contents) {places : ℕ} {cells₀ cells : List Float} {fore : Flo
 
 -- ---- the rows of the whole body
 
-pub body_below : Below (total_row finishes 0) body_rows
+pub body_below : (F : ℕ) → Below (total_row F 0) (body_rows F)
 unfolding body_rows
-body_below = (omega arith, from_below (friction_row 0) finishes (total_row finishes 0) (omega arith))
+body_below F = (omega arith, from_below (friction_row 0) F (total_row F 0) (omega arith))
 
 -- a row that is neither of the whole body nor a total is a part's
-pub body_outside : (r : ℕ) → r < total_row finishes 0 → Unnamed body_rows r → r < most_parts
+pub body_outside : (F r : ℕ) → r < total_row F 0 → Unnamed (body_rows F) r → r < most_parts
 unfolding body_rows
-body_outside r h u = let k : r ≢ base_row finishes = u.0 in before_named (friction_row 0) finishes r u.1 (omega arith)
+body_outside F r h u = let k : r ≢ base_row F = u.0 in before_named (friction_row 0) F r u.1 (omega arith)
 
 -- ---- a cell of each row
 
 -- the cells of the rows before this one are put into a column
-abbrev pub Putting : ℕ → ℕ → List Float → List Float → List Float → ℕ → Type 0
-Putting column count values cells₀ cells row = RowsDone count (λ r. set (row_at count cells₀ r) column (get_or values r nan)) 0 (all_rows finishes) cells₀ cells row
+abbrev pub Putting : ℕ → ℕ → ℕ → List Float → List Float → List Float → ℕ → Type 0
+Putting column F count values cells₀ cells row = RowsDone count (λ r. set (row_at count cells₀ r) column (get_or values r nan)) 0 (all_rows F) cells₀ cells row
 
-pub put_next : (column count : ℕ) (values cells₀ cells : List Float) (row at : ℕ) → Putting column count values cells₀ cells row → at ≡ row * count → column < count → needed count ≤ length cells₀ → row < all_rows finishes
-    → Putting column count values cells₀ (set cells (at + column) (get_or values row nan)) (row + 1)
-put_next column count values cells₀ cells row at p e h fits l =
+pub put_next : (column F count : ℕ) (values cells₀ cells : List Float) (row at : ℕ) → Putting column F count values cells₀ cells row → at ≡ row * count → column < count → needed F count ≤ length cells₀ → row < all_rows F
+    → Putting column F count values cells₀ (set cells (at + column) (get_or values row nan)) (row + 1)
+put_next column F count values cells₀ cells row at p e h fits l =
     let f : ℕ → List Float = λ r. set (row_at count cells₀ r) column (get_or values r nan) in
-    let N = all_rows finishes in
+    let N = all_rows F in
     let wide : (r : ℕ) → r < N → length (f r) ≡ count =
     λ r m. let q = room r N count m in length-set (row_at count cells₀ r) column _ ∙ length-take-le count (drop (r * count) cells₀) (simp length-drop (omega arith)) in
     let w = wrote count N f (from 0 row) cells₀ wide fits (from_below 0 row N (omega arith)) in
@@ -104,23 +108,24 @@ zero_row r n C h =
     let e : replicate (n * C) 0·0 ≡ replicate (r * C) 0·0 ++ replicate m 0·0 = ap (λ k. replicate k 0·0) q ∙ sym (replicate-append-replicate (r * C) m 0·0) in
     rw (e, drop_at (replicate (r * C) 0·0) (replicate m 0·0) (r * C) (length-replicate (r * C) 0·0)) (take-replicate C m 0·0 (omega arith))
 
-pub from_nothing : (c : Contents) (count : ℕ) (xs ys zs : List Float) → length c.parts ≡ count → count ≤ most_parts → xs ≡ replicate (needed c.settings.count) 0·0
-    → ys ≡ rows_written c.settings.count (row_of c) (from 0 count) xs → zs ≡ totalled c.settings.count (rows_written c.settings.count (row_of c) body_rows ys) → zs ≡ build c
+pub from_nothing : (c : Contents) (count : ℕ) (xs ys zs : List Float) → length c.parts ≡ count → count ≤ most_parts → xs ≡ replicate (needed c.settings.finishes c.settings.count) 0·0
+    → ys ≡ rows_written c.settings.count (row_of c) (from 0 count) xs → zs ≡ totalled c.settings.finishes c.settings.count (rows_written c.settings.count (row_of c) (body_rows c.settings.finishes) ys) → zs ≡ build c
 unfolding overwritten
 from_nothing c count xs ys zs n few z e f =
     let C = c.settings.count in
-    let N = all_rows finishes in
-    let named = body_rows ++ from 0 count in
-    let long : length xs ≡ needed C = ap length z ∙ length-replicate (needed C) 0·0 in
-    let fits : needed C ≤ length xs = omega arith in
-    let b = below_append (total_row finishes 0) body_rows (from 0 count) body_below (from_below 0 count (total_row finishes 0) (omega arith)) in
-    let same : (r : ℕ) → r < total_row finishes 0 → Unnamed named r → row_at C xs r ≡ row_of c r =
+    let F = c.settings.finishes in
+    let N = all_rows F in
+    let named = body_rows F ++ from 0 count in
+    let long : length xs ≡ needed F C = ap length z ∙ length-replicate (needed F C) 0·0 in
+    let fits : needed F C ≤ length xs = omega arith in
+    let b = below_append (total_row F 0) (body_rows F) (from 0 count) (body_below F) (from_below 0 count (total_row F 0) (omega arith)) in
+    let same : (r : ℕ) → r < total_row F 0 → Unnamed named r → row_at C xs r ≡ row_of c r =
     λ r l u.
-    let v = unnamed_append body_rows (from 0 count) r u in
-    let few : r < most_parts = body_outside r l v.0 in
+    let v = unnamed_append (body_rows F) (from 0 count) r u in
+    let few : r < most_parts = body_outside F r l v.0 in
     let none : count ≤ r = dite (dec_lt r count) (λ h. absurd (omega (arith, before_named 0 count r v.1 (omega arith)))) (λ h. omega arith) in
     rw z (zero_row r N C (omega arith) ∙ no_part c r few (omega arith)) in
     let ws = overwritten (rows named) c xs in
     let h : Holds c ws = rows_hold c xs fits named b same in
     let k : length ws ≡ length xs = (keeps c xs fits (rows named) b).long in
-    f ∙ rw (e, ← rows_append C (row_of c) body_rows (from 0 count) xs) (sym (take_all (needed C) ws (omega arith)) ∙ holds_build c ws h)
+    f ∙ rw (e, ← rows_append C (row_of c) (body_rows F) (from 0 count) xs) (sym (take_all (needed F C) ws (omega arith)) ∙ holds_build c ws h)

@@ -1,10 +1,10 @@
 -- The laws that the functions' proofs share, what each call owes, the theorem over lists, and laws on the calls' definitions: which rows and refusals are whose.
 pub mod Verdicts
 pub mod Sums
-pub mod Fours
 pub mod Each
 pub mod AddedUp
 pub mod ByPlace
+pub mod Finishes
 pub mod Slots
 pub mod RowKinds
 pub mod Taken

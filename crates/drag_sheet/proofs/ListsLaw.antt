@@ -29,33 +29,33 @@ use Rattle.drag_sheet.proofs.CallLaws.{Ended, accepted, refusal, ended, shown, l
 
 -- ---- one call
 
--- what a sheet and its cells keep through every call; C is the number of columns, `lent` the cells as they were lent
-record Kept (lent : List Float) (C : ℕ) (sheet : Sheet) (xs : List Float) : Type 0 where
+-- what a sheet and its cells keep through every call; N is the number of cells needed, `lent` the cells as they were lent
+record Kept (lent : List Float) (N : ℕ) (sheet : Sheet) (xs : List Float) : Type 0 where
   pub holds : Holds (contents_of sheet) xs
   pub tried : trial (contents_of sheet) ≡ Ok tt
-  pub width : sheet.settings.count ≡ C
+  pub need : needed sheet.settings.finishes sheet.settings.count ≡ N
   pub arrays : Arrays sheet
   pub few : sheet.design.count ≤ most_parts
   pub long : length xs ≡ length lent
-  pub past : drop (needed C) xs ≡ drop (needed C) lent
+  pub past : drop N xs ≡ drop N lent
 
-parts_long : (lent : List Float) (C : ℕ) (sheet : Sheet) (xs : List Float) → Kept lent C sheet xs → length (parts_of sheet.design) ≡ sheet.design.count
-parts_long lent C sheet xs k = length-take-le sheet.design.count sheet.design.parts (omega (arith, k.few, k.arrays.slots))
+parts_long : (lent : List Float) (N : ℕ) (sheet : Sheet) (xs : List Float) → Kept lent N sheet xs → length (parts_of sheet.design) ≡ sheet.design.count
+parts_long lent N sheet xs k = length-take-le sheet.design.count sheet.design.parts (omega (arith, k.few, k.arrays.slots))
 
 -- the program and the model decide alike: by the rows that the call writes, and by all rows
-same_decision : (lent : List Float) (C : ℕ) (sheet : Sheet) (xs : List Float) (call : Call) → Kept lent C sheet xs → decision call sheet (length xs) ≡ model_decision (length lent) call (contents_of sheet)
-same_decision lent C sheet xs call k =
+same_decision : (lent : List Float) (N : ℕ) (sheet : Sheet) (xs : List Float) (call : Call) → Kept lent N sheet xs → decision call sheet (length xs) ≡ model_decision (length lent) call (contents_of sheet)
+same_decision lent N sheet xs call k =
     let s = sheet.settings in
     let n = sheet.design.count in
     by (call_test call sheet (length xs)) refl
     ∙ then_assoc (sheet_test (contents_of sheet) (length xs) n) (arguments_test call s n) (trial (after call sheet))
-    ∙ rw (parts_long lent C sheet xs k, k.long)
+    ∙ rw (parts_long lent N sheet xs k, k.long)
   where
     by : (d : Check) → call_test call sheet (length xs) ≡ d → decision call sheet (length xs) ≡ (call_test call sheet (length xs) then trial (after call sheet))
     by (Err e) p = rw p
     by (Ok _) p =
         let f = call_facts call sheet (length xs) p in
-        rw p (narrow call (contents_of sheet) (subst (Bounds call sheet.settings) (sym (parts_long lent C sheet xs k)) f.within) k.tried)
+        rw p (narrow call (contents_of sheet) (subst (Bounds call sheet.settings) (sym (parts_long lent N sheet xs k)) f.within) k.tried)
 
 arrays_after : (call : Call) (sheet : Sheet) → Arrays sheet → length (after call sheet).parts ≤ most_parts → Arrays (sheet_with (after call sheet) sheet)
 arrays_after call sheet z few = record { machs = machs call; reynolds = reynolds call; slots = slots }
@@ -79,44 +79,44 @@ arrays_after call sheet z few = record { machs = machs call; reynolds = reynolds
     slots : length ((after call sheet).parts ++ drop (length (after call sheet).parts) sheet.design.parts) ≡ most_parts
     slots = simp (length-append, length-drop) (omega (arith, z.slots))
 
-kept : (lent : List Float) (C : ℕ) (sheet : Sheet) (xs : List Float) (call : Call) → Kept lent C sheet xs → decision call sheet (length xs) ≡ Ok tt
-    → Kept lent C (sheet_with (after call sheet) sheet) (overwritten (scope call (after call sheet)) (after call sheet) xs)
-kept lent C sheet xs call k p =
+kept : (lent : List Float) (N : ℕ) (sheet : Sheet) (xs : List Float) (call : Call) → Kept lent N sheet xs → decision call sheet (length xs) ≡ Ok tt
+    → Kept lent N (sheet_with (after call sheet) sheet) (overwritten (scope call (after call sheet)) (after call sheet) xs)
+kept lent N sheet xs call k p =
     let a = shown call sheet xs k.arrays.slots p in
     let l = left call sheet xs a in
     let new = after call sheet in
     let same = contents_with new sheet in
     let few = parts_few call (contents_of sheet) a.within a.few in
-    let w = k.width in
+    let need : needed new.settings.finishes new.settings.count ≡ needed sheet.settings.finishes sheet.settings.count = rw (l.layout.finishes, l.layout.columns) refl in
     record {
       holds = rw same (call_holds call (contents_of sheet) xs a.within a.few k.holds);
       tried = rw same (sym (narrow call (contents_of sheet) a.within k.tried) ∙ a.tried);
-      width = l.width ∙ w;
+      need = need ∙ k.need;
       arrays = arrays_after call sheet k.arrays few;
       few = few;
       long = l.cells.long ∙ k.long;
-      past = subst (λ n. drop (needed n) (overwritten (scope call new) new xs) ≡ drop (needed n) xs) w l.cells.past ∙ k.past;
+      past = subst (λ n. drop n (overwritten (scope call new) new xs) ≡ drop n xs) k.need l.cells.past ∙ k.past;
     }
 
 -- what is kept, where the model goes, and the answer
-step : (lent : List Float) (C : ℕ) (sheet : Sheet) (xs : List Float) (call : Call) (r : Answer) (ys : List Float) → Kept lent C sheet xs → Called call sheet xs r ys
-    → Kept lent C r.sheet ys × (contents_of r.sheet ≡ moved (length lent) call (contents_of sheet)) × (r.outcome ≡ model_decision (length lent) call (contents_of sheet))
-step lent C sheet xs call r ys k c = by (ended call sheet xs r ys c)
+step : (lent : List Float) (N : ℕ) (sheet : Sheet) (xs : List Float) (call : Call) (r : Answer) (ys : List Float) → Kept lent N sheet xs → Called call sheet xs r ys
+    → Kept lent N r.sheet ys × (contents_of r.sheet ≡ moved (length lent) call (contents_of sheet)) × (r.outcome ≡ model_decision (length lent) call (contents_of sheet))
+step lent N sheet xs call r ys k c = by (ended call sheet xs r ys c)
   where
     by : Ended call sheet xs r ys
-        → Kept lent C r.sheet ys × (contents_of r.sheet ≡ moved (length lent) call (contents_of sheet)) × (r.outcome ≡ model_decision (length lent) call (contents_of sheet))
-    by (accepted p a l) = rw (sym (same_decision lent C sheet xs call k), p, a, l) (kept lent C sheet xs call k p, contents_with (after call sheet) sheet, refl)
-    by (refusal e p a l) = rw (sym (same_decision lent C sheet xs call k), p, a, l) (k, refl, refl)
+        → Kept lent N r.sheet ys × (contents_of r.sheet ≡ moved (length lent) call (contents_of sheet)) × (r.outcome ≡ model_decision (length lent) call (contents_of sheet))
+    by (accepted p a l) = rw (sym (same_decision lent N sheet xs call k), p, a, l) (kept lent N sheet xs call k p, contents_with (after call sheet) sheet, refl)
+    by (refusal e p a l) = rw (sym (same_decision lent N sheet xs call k), p, a, l) (k, refl, refl)
 
 -- ---- a list of calls
 
-runs : (lent : List Float) (C : ℕ) {sheet last : Sheet} {xs zs : List Float} {calls : List Call} {outcomes : List Check} → Kept lent C sheet xs → Sequence sheet xs calls last zs outcomes
-    → Kept lent C last zs × (contents_of last ≡ model_after (length lent) calls (contents_of sheet)) × (outcomes ≡ model_decisions (length lent) calls (contents_of sheet))
+runs : (lent : List Float) (N : ℕ) {sheet last : Sheet} {xs zs : List Float} {calls : List Call} {outcomes : List Check} → Kept lent N sheet xs → Sequence sheet xs calls last zs outcomes
+    → Kept lent N last zs × (contents_of last ≡ model_after (length lent) calls (contents_of sheet)) × (outcomes ≡ model_decisions (length lent) calls (contents_of sheet))
 unfolding model_after model_decisions
-runs lent C k stop = (k, refl, refl)
-runs lent C {sheet} {last} {xs} k (go {ys} {call} {calls} {r} c rest) =
-    let a = step lent C sheet xs call r ys k c in
-    let b = runs lent C a.0 rest in
+runs lent N k stop = (k, refl, refl)
+runs lent N {sheet} {last} {xs} k (go {ys} {call} {calls} {r} c rest) =
+    let a = step lent N sheet xs call r ys k c in
+    let b = runs lent N a.0 rest in
     (b.0, b.1 ∙ ap (model_after (length lent) calls) a.1, rw (b.2, a.1, a.2))
 
 -- ---- an open
@@ -136,18 +136,18 @@ open_refused s xs r ys e o f =
     (ap (λ (q : Answer). q.sheet) e, o.left ∙ rw d)
 
 opens : (s : Settings) (xs : List Float) (r : Answer) (ys : List Float) → length s.machs ≡ most_columns → length s.reynolds ≡ most_columns
-    → Opened s xs r ys → r.outcome ≡ Ok tt → Kept xs s.count r.sheet ys × (r.sheet ≡ blank s)
+    → Opened s xs r ys → r.outcome ≡ Ok tt → Kept xs (needed s.finishes s.count) r.sheet ys × (r.sheet ≡ blank s)
 opens s xs r ys m n o a =
     let p = sym (outcome_of s xs r ys o) ∙ a in
     let f = settings_facts s (length xs) p in
     let c = contents_of (blank s) in
     let e : r ≡ record { outcome = Ok tt; sheet = blank s } = o.answer ∙ rw p in
     let l : ys ≡ overwritten whole c xs = o.left ∙ rw p in
-    let g = keeps c xs f.1 whole tt in
-    let k : Kept xs s.count (blank s) (overwritten whole c xs) = record {
-      holds = whole_holds c xs f.1;
+    let g = keeps c xs f.room whole tt in
+    let k : Kept xs (needed s.finishes s.count) (blank s) (overwritten whole c xs) = record {
+      holds = whole_holds c xs f.room;
       tried = blank_tried s;
-      width = refl;
+      need = refl;
       arrays = record { machs = m; reynolds = n; slots = refl };
       few = omega arith;
       long = g.long;
@@ -157,16 +157,16 @@ opens s xs r ys m n o a =
 
 -- from an accepted open, for every list of calls
 agrees : (s : Settings) (xs : List Float) (r : Answer) (ys : List Float) {calls : List Call} {last : Sheet} {zs : List Float} {outcomes : List Check}
-    → Kept xs s.count r.sheet ys × (r.sheet ≡ blank s) → Sequence r.sheet ys calls last zs outcomes → Agrees xs (opened_model s) calls last zs outcomes
+    → Kept xs (needed s.finishes s.count) r.sheet ys × (r.sheet ≡ blank s) → Sequence r.sheet ys calls last zs outcomes → Agrees xs (opened_model s) calls last zs outcomes
 agrees s xs r ys {calls} {last} {zs} k run =
-    let b = runs xs s.count k.0 run in
+    let b = runs xs (needed s.finishes s.count) k.0 run in
     let start : contents_of r.sheet ≡ opened_model s = ap contents_of k.1 in
     let model = b.1 ∙ ap (model_after (length xs) calls) start in
     let matches : Matches last zs (contents_of last) = record {
       tried = b.0.tried;
       rows = holds_build (contents_of last) zs b.0.holds;
       contents = refl;
-      count = sym (parts_long xs s.count last zs b.0);
+      count = sym (parts_long xs (needed s.finishes s.count) last zs b.0);
     } in
     record {
       matches = subst (Matches last zs) model matches;

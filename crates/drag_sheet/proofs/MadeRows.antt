@@ -9,7 +9,7 @@ use lib.Seq.{length-take-le}
 use lib.Ieee.{Float, nan}
 use Rattle.sheet_data.specs.declared.Part.{Part}
 use Rattle.sheet_data.specs.declared.Sheet.{Sheet}
-use Rattle.sheet_data.specs.Layout.{most_parts, finishes, friction_row, base_row, total_row, all_rows, needed}
+use Rattle.sheet_data.specs.Layout.{most_parts, friction_row, base_row, total_row, all_rows, needed}
 use Rattle.sheet_data.specs.Contents.{Contents, contents_of, parts_of, part_at, part_taken, fore_at, mach_at, reynolds_at}
 use Rattle.sheet_data.specs.Tables.{tab, tab_long, tab_same}
 use Rattle.sheet_data.specs.Rows.{from, row_at, written}
@@ -17,7 +17,7 @@ use Rattle.sheet_data.specs.RowLaws.{from_below, before_all, wrote, RowsDone, ro
 use Rattle.drag_sheet.specs.Formulas.{prepared_of, base_area, base_cell}
 use Rattle.drag_sheet.specs.Body.{base_over, friction_row_cells}
 use Rattle.drag_sheet.specs.Build.{kind_cell, prepared_at, row_test_from, row_from, row_test, row_of}
-use Rattle.drag_sheet.specs.Writing.{Filled, there, total_there}
+use Rattle.drag_sheet.specs.Writing.{parts_there, Filled, there, total_there}
 use Rattle.drag_sheet.specs.Edits.{RowAsked}
 use Rattle.drag_sheet.proofs.Verdicts.{filled_same}
 use Rattle.drag_sheet.proofs.Sums.{sum_same}
@@ -39,34 +39,43 @@ row_made sheet place f p l a e q h =
 -- ---- the rows of the whole body, as the functions fill them
 
 module _ (c : Contents) where
-  pub friction_made : (j : ℕ) → j < finishes → friction_row_cells c ≡ row_of c (friction_row j)
+  pub friction_made : (j : ℕ) → j < c.settings.finishes → friction_row_cells c j ≡ row_of c (friction_row j)
   unfolding kind_cell
-  friction_made j h = tab_same c.settings.count _ _ (λ k l. sym (ap (λ z. kind_cell c z (mach_at c.settings k) (reynolds_at c.settings k)) (kind_friction finishes j h)))
+  friction_made j h = tab_same c.settings.count _ _ (λ k l. sym (ap (λ z. kind_cell c z (mach_at c.settings k) (reynolds_at c.settings k)) (kind_friction c.settings.finishes j h)))
 
-  pub base_made : tab c.settings.count (λ k. base_over (base_area c) (mach_at c.settings k)) ≡ row_of c (base_row finishes)
+  pub base_made : tab c.settings.count (λ k. base_over (base_area c) (mach_at c.settings k)) ≡ row_of c (base_row c.settings.finishes)
   unfolding kind_cell base_cell
-  base_made = tab_same c.settings.count _ _ (λ k l. sym (ap (λ z. kind_cell c z (mach_at c.settings k) (reynolds_at c.settings k)) (kind_base finishes)))
+  base_made = tab_same c.settings.count _ _ (λ k l. sym (ap (λ z. kind_cell c z (mach_at c.settings k) (reynolds_at c.settings k)) (kind_base c.settings.finishes)))
 
 -- ---- totals
 
+-- sums of the part rows are of these alone
+pub parts_same : (C : ℕ) (xs ys : List Float) → ((r : ℕ) → r < most_parts → row_at C xs r ≡ row_at C ys r) → parts_there C xs ≡ parts_there C ys
+parts_same C xs ys same = tab_same C _ _ (λ k l. sum_same most_parts _ _ (λ i u. ap (λ row. get_or row k nan) (same i u)))
+
 -- a total adds only rows that stand above the totals
-total_same : (C j : ℕ) (xs ys : List Float) → j < finishes → ((r : ℕ) → r < total_row finishes 0 → row_at C xs r ≡ row_at C ys r) → total_there C xs j ≡ total_there C ys j
-total_same C j xs ys h same =
+total_same : (F C j : ℕ) (xs ys : List Float) → j < F → ((r : ℕ) → r < total_row F 0 → row_at C xs r ≡ row_at C ys r) → total_there F C xs j ≡ total_there F C ys j
+total_same F C j xs ys h same =
     tab_same C _ _ (λ k l.
-    rw (sum_same most_parts (λ i. there C xs i k) (λ i. there C ys i k) (λ i u. ap (λ row. get_or row k nan) (same i (omega arith))), same (friction_row j) (omega arith), same (base_row finishes) (omega arith)))
+    rw (sum_same most_parts (λ i. there C xs i k) (λ i. there C ys i k) (λ i u. ap (λ row. get_or row k nan) (same i (omega arith))), same (friction_row j) (omega arith), same (base_row F) (omega arith)))
 
 -- the total rows written so far
-abbrev pub TotalsDone : ℕ → List Float → List Float → ℕ → Type 0
-TotalsDone C xs₀ xs j = RowsDone C (λ r. total_there C xs₀ (r - total_row finishes 0)) (total_row finishes 0) finishes xs₀ xs j
+abbrev pub TotalsDone : ℕ → ℕ → List Float → List Float → ℕ → Type 0
+TotalsDone F C xs₀ xs j = RowsDone C (λ r. total_there F C xs₀ (r - total_row F 0)) (total_row F 0) F xs₀ xs j
+
+-- the rows above the totals are as they were
+pub above_kept : (F C j : ℕ) (xs₀ xs : List Float) → TotalsDone F C xs₀ xs j → needed F C ≤ length xs₀ → j ≤ F → (r : ℕ) → r < total_row F 0 → row_at C xs r ≡ row_at C xs₀ r
+above_kept F C j xs₀ xs d fits h r u =
+    let T = total_row F 0 in
+    let w = wrote C (all_rows F) (λ r. total_there F C xs₀ (r - T)) (from T j) xs₀ (λ r u. tab_long C _) fits (from_below T j (all_rows F) (omega arith)) in
+    ap (λ (zs : List Float). row_at C zs r) d.done ∙ w.kept r (before_all T j r u)
 
 -- a total of the cells as they are by then is one of the cells as they were
-pub total_next : (C j : ℕ) (xs₀ xs ys : List Float) → TotalsDone C xs₀ xs j → needed C ≤ length xs₀ → j < finishes → length ys ≡ length xs
-    → ys ≡ written (total_row finishes j * C) (total_there C xs j) xs → TotalsDone C xs₀ ys (j + 1)
-total_next C j xs₀ xs ys d fits h l e =
-    let T = total_row finishes 0 in
-    let f : ℕ → List Float = λ r. total_there C xs₀ (r - T) in
-    let w = wrote C (all_rows finishes) f (from T j) xs₀ (λ r u. tab_long C _) fits (from_below T j (all_rows finishes) (omega arith)) in
-    let same = total_same C j xs xs₀ h (λ r u. ap (λ (zs : List Float). row_at C zs r) d.done ∙ w.kept r (before_all T j r u)) in
-    let p : T + j ≡ total_row finishes j = omega arith in
+pub total_next : (F C j : ℕ) (xs₀ xs ys : List Float) → TotalsDone F C xs₀ xs j → needed F C ≤ length xs₀ → j < F → length ys ≡ length xs
+    → ys ≡ written (total_row F j * C) (total_there F C xs j) xs → TotalsDone F C xs₀ ys (j + 1)
+total_next F C j xs₀ xs ys d fits h l e =
+    let T = total_row F 0 in
+    let same = total_same F C j xs xs₀ h (above_kept F C j xs₀ xs d fits (omega arith)) in
+    let p : T + j ≡ total_row F j = omega arith in
     let q : T + j - T ≡ j = omega arith in
     rows_next d ys h l (e ∙ rw (q, p, same))

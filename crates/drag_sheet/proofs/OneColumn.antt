@@ -8,7 +8,7 @@ use Rattle.aero_error.specs.Checks.{◌then◌}
 use Rattle.aero_error.specs.CheckLaws.{up_one, up_same}
 use Rattle.sheet_data.specs.declared.Settings.{Settings}
 use Rattle.sheet_data.specs.declared.Part.{Part}
-use Rattle.sheet_data.specs.Layout.{finishes, all_rows}
+use Rattle.sheet_data.specs.Layout.{all_rows}
 use Rattle.sheet_data.specs.Contents.{Contents}
 use Rattle.sheet_data.specs.Tables.{tab}
 use Rattle.sheet_data.specs.Rows.{laid}
@@ -43,6 +43,6 @@ module _ (s : Settings) (ps : List Part) (n : Float) (k : ℕ) (M R : Float) (ma
   one_each zero f g h = refl
   one_each (suc n) f g h = rw (h 0, one_each n (λ r. f (suc r)) (λ r. g (suc r)) (λ r. h (suc r)))
 
-  pub column_built : build (record { settings = one_column s M R; parts = ps; nozzle = n }) ≡ tab (all_rows finishes) (λ r. cell_at (record { settings = with_column s k M R; parts = ps; nozzle = n }) r k)
+  pub column_built : build (record { settings = one_column s M R; parts = ps; nozzle = n }) ≡ tab (all_rows s.finishes) (λ r. cell_at (record { settings = with_column s k M R; parts = ps; nozzle = n }) r k)
   unfolding build
-  column_built = one_each (all_rows finishes) (cell_at lone) (λ r. cell_at put r k) (λ r. same_kind (kind_at finishes r) ∙ rw (new_mach s k M R machs, new_reynolds s k M R reynolds))
+  column_built = one_each (all_rows s.finishes) (cell_at lone) (λ r. cell_at put r k) (λ r. same_kind (kind_at s.finishes r) ∙ rw (new_mach s k M R machs, new_reynolds s k M R reynolds))

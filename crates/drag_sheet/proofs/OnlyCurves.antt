@@ -30,9 +30,9 @@ use Rattle.nose_drag.specs.Answered.{curve_answered}
 use Rattle.sheet_data.specs.declared.Part.{Part}
 use Rattle.sheet_data.specs.declared.Sheet.{Sheet}
 use Rattle.sheet_data.specs.Layout.{most_parts, most_columns}
-use Rattle.sheet_data.specs.Contents.{Contents, contents_of, part_at, fore_at, mach_at, reynolds_at}
-use Rattle.sheet_data.specs.Tests.{0·001, 100·0, in_interval, body_test, columns_test, settings_test, nozzle_test, part_test, parts_test, sheet_test}
-use Rattle.sheet_data.proofs.Held.{inside, given_own}
+use Rattle.sheet_data.specs.Contents.{Contents, contents_of, part_at, fore_at, roughness_at, mach_at, reynolds_at}
+use Rattle.sheet_data.specs.Tests.{0·001, 100·0, in_interval, finishes_test, roughnesses_test, body_test, columns_test, settings_test, nozzle_test, part_test, parts_test, sheet_test}
+use Rattle.sheet_data.proofs.Held.{inside, held_roughness, given_own}
 use Rattle.drag_sheet.specs.declared.part.Row.TheVariants.{Widening, Narrowing, Level}
 use Rattle.drag_sheet.specs.Formulas.{area_ratio, with_curve, prepared_of, cell_of, cell_from, ready_test, made_test, roughness_of, last_diameter}
 use Rattle.drag_sheet.specs.Build.{prepared_at, row_test, trial}
@@ -50,7 +50,7 @@ record Sized (p : Part) : Type 0 where
   pub own : (x : Float) → p.roughness ≡ Some x → between 0·0 x 1·0 ≡ true
 
 record Ranges (c : Contents) : Type 0 where
-  pub roughness : between 0·0 c.settings.roughness 1·0 ≡ true
+  pub roughness : (j : ℕ) → j < c.settings.finishes → between 0·0 (roughness_at c.settings j) 1·0 ≡ true
   pub fineness : dimension c.settings.body_fineness false ≡ true
   pub columns : (k : ℕ) → k < c.settings.count → flow_checked (mach_at c.settings k) (reynolds_at c.settings k) ≡ Ok tt
   pub parts : (i : ℕ) → i < length c.parts → Sized (part_at c.parts i)
@@ -69,27 +69,28 @@ ranges c cells t =
     let b = both_passed (unless (ltb most_columns s.count) TooManyColumns) _ a.first in
     let body = both_passed (body_test s) _ b.second in
     let width = both_passed (in_interval 0·001 s.reference_diameter 100·0) _ body.first in
-    let wall = both_passed (in_interval 0·0 s.roughness 1·0) _ width.second in
+    let finishes = both_passed (finishes_test s.finishes) _ width.second in
+    let walls = both_passed (roughnesses_test s) _ finishes.second in
     let columns = both_passed (columns_test s) _ body.second in
     let nozzle = both_passed (nozzle_test c.nozzle) _ a.second in
     let parts = both_passed (unless (ltb most_parts (length c.parts)) DesignFull) _ nozzle.second in
     record {
-      roughness = inside _ _ _ wall.first;
-      fineness = required_passed _ _ _ wall.second;
+      roughness = λ j h. held_roughness s j body.first h;
+      fineness = required_passed _ _ _ walls.second;
       columns = up_each _ s.count columns.first;
       parts = λ i h. sized (part_at c.parts i) (up_each _ (length c.parts) parts.second i h);
     }
 
 -- ---- the whole body
 
--- the roughness of the part at a place
-abbrev roughness_at : Contents → ℕ → Float
-roughness_at c i = roughness_of (part_at c.parts i).roughness c.settings.roughness
+-- the roughness in finish j of the part at a place
+abbrev wall_at : Contents → ℕ → ℕ → Float
+wall_at c j i = roughness_of (part_at c.parts i).roughness (roughness_at c.settings j)
 
--- at a column: each part's skin friction, form factor and base drag are these numbers
+-- at a column: each part's skin friction in every finish, form factor and base drag are these numbers
 pub record Answered (c : Contents) (k : ℕ) : Type 0 where
-  pub friction : (i : ℕ) → i < length c.parts → skin_friction_coefficient (reynolds_at c.settings k) (roughness_at c i) (mach_at c.settings k)
-      ≡ Ok (compressible (limits (roughness_at c i) (reynolds_at c.settings k)) (limited_friction (roughness_at c i)) (reynolds_at c.settings k) (mach_at c.settings k))
+  pub friction : (j i : ℕ) → j < c.settings.finishes → i < length c.parts → skin_friction_coefficient (reynolds_at c.settings k) (wall_at c j i) (mach_at c.settings k)
+      ≡ Ok (compressible (limits (wall_at c j i) (reynolds_at c.settings k)) (limited_friction (wall_at c j i)) (reynolds_at c.settings k) (mach_at c.settings k))
   pub form : body_friction_form_factor c.settings.body_fineness ≡ Ok (1·0 ⊕ 0·5 ⊘ c.settings.body_fineness)
   pub base : base_drag_coefficient (mach_at c.settings k) ≡ Ok (base_drag (mach_at c.settings k))
 
@@ -105,7 +106,7 @@ pub body_answered : (c : Contents) (cells : ℕ) → Tested c cells → (k : ℕ
 body_answered c cells t k h =
     let r = ranges c cells t in
     record {
-      friction = λ i l. friction_answered (reynolds_at c.settings k) (roughness_at c i) (mach_at c.settings k) (r.columns k h) (rough_inside c.settings.roughness (part_at c.parts i).roughness r.roughness (r.parts i l).own);
+      friction = λ j i m l. friction_answered (reynolds_at c.settings k) (wall_at c j i) (mach_at c.settings k) (r.columns k h) (rough_inside (roughness_at c.settings j) (part_at c.parts i).roughness (r.roughness j m) (r.parts i l).own);
       form = form_answered c.settings.body_fineness r.fineness;
       base = base_answered (mach_at c.settings k) (passed_at c r k h);
     }

@@ -8,7 +8,7 @@ use native.Mathlib.Omega.{arith}
 use lib.ListN.{length, take, replicate}
 use lib.Ieee.{Float}
 use borrow.Author.Tests.{lt-ltb, le-ltb, eq-eqb, ne_eqb}
-use Rattle.sheet_data.specs.Layout.{most_parts, finishes, friction_row, base_row, total_row}
+use Rattle.sheet_data.specs.Layout.{most_parts, friction_row, base_row, total_row}
 use Rattle.sheet_data.specs.declared.Part.{Part}
 use Rattle.sheet_data.specs.Contents.{Contents, fore_at, part_taken}
 use Rattle.sheet_data.specs.Tables.{tab_long, tab_same, tab_constant}
@@ -37,12 +37,12 @@ row_wide c r = tab_long c.settings.count _
 -- the row of a part
 pub part_row : (c : Contents) (i : ℕ) → i < most_parts → i < length c.parts → row_from (prepared_at c i) c.settings ≡ row_of c i
 unfolding kind_cell part_cell
-part_row c i h l = tab_same c.settings.count _ _ (λ k m. sym (rw (kind_part finishes i h, lt-ltb i (length c.parts) l)))
+part_row c i h l = tab_same c.settings.count _ _ (λ k m. sym (rw (kind_part c.settings.finishes i h, lt-ltb i (length c.parts) l)))
 
 -- a row without a part
 pub no_part : (c : Contents) (i : ℕ) → i < most_parts → length c.parts ≤ i → replicate c.settings.count 0·0 ≡ row_of c i
 unfolding kind_cell part_cell
-no_part c i h l = tab_constant c.settings.count 0·0 ∙ tab_same c.settings.count _ _ (λ k m. sym (rw (kind_part finishes i h, le-ltb i (length c.parts) l)))
+no_part c i h l = tab_constant c.settings.count 0·0 ∙ tab_same c.settings.count _ _ (λ k m. sym (rw (kind_part c.settings.finishes i h, le-ltb i (length c.parts) l)))
 
 -- ---- what doesn't depend on the nozzle diameter: the trial of the rows, the part rows and the friction rows
 
@@ -52,13 +52,13 @@ module _ (n : Float) (c : Contents) where
   same_trial = refl
 
   -- a row that stands above the base row
-  pub above_base : (r : ℕ) → r < base_row finishes → row_of (with_nozzle n c) r ≡ row_of c r
+  pub above_base : (r : ℕ) → r < base_row c.settings.finishes → row_of (with_nozzle n c) r ≡ row_of c r
   unfolding kind_cell part_cell friction_cell
   above_base r h =
       let j = r - friction_row 0 in
       dite (dec_lt r most_parts)
-      (λ l. tab_same c.settings.count _ _ (λ k m. rw (kind_part finishes r l)))
-      (λ l. let e : friction_row j ≡ r = omega arith in subst (λ q. row_of (with_nozzle n c) q ≡ row_of c q) e (tab_same c.settings.count _ _ (λ k m. rw (kind_friction finishes j (omega arith)))))
+      (λ l. tab_same c.settings.count _ _ (λ k m. rw (kind_part c.settings.finishes r l)))
+      (λ l. let e : friction_row j ≡ r = omega arith in subst (λ q. row_of (with_nozzle n c) q ≡ row_of c q) e (tab_same c.settings.count _ _ (λ k m. rw (kind_friction c.settings.finishes j (omega arith)))))
 
 -- the fore diameter of a place of the design, looked up among the parts that count
 pub fore_taken : (n i : ℕ) (ps : List Part) → i ≤ n → fore_at ps i ≡ fore_at (take n ps) i

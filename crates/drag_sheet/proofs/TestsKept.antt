@@ -22,7 +22,7 @@ use Rattle.sheet_data.specs.declared.Settings.{Settings}
 use Rattle.sheet_data.specs.declared.Part.{Part}
 use Rattle.sheet_data.specs.Layout.{most_parts, most_columns}
 use Rattle.sheet_data.specs.Contents.{Contents, no_part, mach_at, reynolds_at}
-use Rattle.sheet_data.specs.Tests.{body_test, columns_test, settings_test, nozzle_test, part_test, parts_test, sheet_test}
+use Rattle.sheet_data.specs.Tests.{roughnesses_test, body_test, columns_test, settings_test, nozzle_test, part_test, parts_test, sheet_test}
 use Rattle.drag_sheet.specs.Calls.{Call, replace, insert, remove, set_column, ignite, burnout, with_column, applied, arguments_test}
 use Rattle.drag_sheet.specs.Model.{opened_model, model_decision, moved, model_after}
 use Rattle.drag_sheet.proofs.Nozzle.{nozzle_after, nozzle_left}
@@ -111,7 +111,7 @@ flow_kept s k i M R e h =
     (put_at (λ x. required (dimension x true) Reynolds x ≡ Ok tt) s.reynolds k i R nan new.second old.second)
 
 column_kept : (s : Settings) (cells k : ℕ) (M R : Float) → flow_checked M R ≡ Ok tt → settings_test s cells ≡ Ok tt → settings_test (with_column s k M R) cells ≡ Ok tt
-unfolding settings_test columns_test
+unfolding settings_test columns_test roughnesses_test
 column_kept s cells k M R e h =
     let a = both_passed (unless (ltb most_columns s.count) TooManyColumns) _ h in
     let b = both_passed (body_test s) _ a.second in

@@ -1,6 +1,6 @@
 -- The rows of the whole body as the code works them out: the base with its share of the reference area, and the friction with what each column and each roughness
 -- decides worked out once.
-use Rattle.std.specs.Prelude.{◌≡◌, Bool, true, List, ℕ, ◌≤◌, ◌<◌, length, get_or, replicate, Float, is_some, Option, Some, None, Result, Ok}
+use Rattle.std.specs.Prelude.{◌≡◌, Bool, true, false, List, ℕ, ◌≤◌, ◌<◌, length, get_or, replicate, Float, is_some, Option, Some, None, Result, Ok}
 use Rattle.std.specs.Float.{nan}
 use Rattle.std.specs.List.{list_any}
 use Rattle.elementary.specs.Arithmetic.{◌⊕◌, ◌⊗◌}
@@ -15,8 +15,8 @@ use Rattle.drag.specs.Pressure.{base_drag_coefficient}
 use Rattle.sheet_data.specs.declared.Settings.{Settings}
 use Rattle.sheet_data.specs.declared.Part.{Part}
 use Rattle.sheet_data.specs.declared.Sheet.{Sheet}
-use Rattle.sheet_data.specs.Layout.{most_parts, most_columns}
-use Rattle.sheet_data.specs.Contents.{Contents, mach_at, reynolds_at}
+use Rattle.sheet_data.specs.Layout.{most_parts, most_columns, most_finishes}
+use Rattle.sheet_data.specs.Contents.{Contents, parts_of, mach_at, reynolds_at}
 use Rattle.sheet_data.specs.Tables.{tab}
 use Rattle.drag_sheet.specs.Formulas.{value_of, friction_cell}
 
@@ -28,11 +28,12 @@ base_over area M = value_of (base_drag_coefficient M) ⊗ area
 
 -- ---- the friction
 
--- the friction row, and what is asked of cells in which it is added up: one for each column, all +0
-abbrev pub friction_row_cells : Contents → List Float
-friction_row_cells c = tab c.settings.count (λ k. friction_cell c (mach_at c.settings k) (reynolds_at c.settings k))
+-- the friction row of a finish, and what is asked of cells in which it is added up: one for each column, all +0
+abbrev pub friction_row_cells : Contents → ℕ → List Float
+friction_row_cells c j = tab c.settings.count (λ k. friction_cell c j (mach_at c.settings k) (reynolds_at c.settings k))
 
-pub record SumAsked (sheet : Sheet) (sum : List Float) : Type 0 where
+pub record SumAsked (sheet : Sheet) (finish : ℕ) (sum : List Float) : Type 0 where
+  pub inside : finish < most_finishes
   pub columns : sheet.settings.count ≤ most_columns
   pub parts : sheet.design.count ≤ most_parts
   pub zeros : sum ≡ replicate sheet.settings.count 0·0
@@ -52,6 +53,11 @@ flow_at flows k = get_or flows k no_flow
 pub record Flows (s : Settings) (flows : List (Result Flow AeroError)) : Type 0 where
   pub long : s.count ≤ length flows
   pub at : (k : ℕ) → k < s.count → flow_at flows k ≡ flow_of true (reynolds_at s k) (mach_at s k)
+
+-- the flows that are kept for a sheet's frictions. Where none are, no part has a roughness of its own
+abbrev pub KeptFlows : Sheet → Option (List (Result Flow AeroError)) → Type 0
+KeptFlows sheet (Some flows) = Flows sheet.settings flows
+KeptFlows sheet None = any_own (parts_of sheet.design) ≡ false
 
 -- friction × form factor, on a wall, and for a part of this roughness, `common` being that of the settings' roughness
 abbrev pub formed : Wall → Float → Result Flow AeroError → Float

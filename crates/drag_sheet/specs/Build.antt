@@ -6,7 +6,7 @@ use Rattle.std.specs.Prelude.{cond, List, ℕ, ◌-◌, length, ltb, eqb, Float}
 use Rattle.elementary.specs.Arithmetic.{◌⊕◌}
 use Rattle.elementary.specs.Constants.{0·0}
 use Rattle.sheet_data.specs.declared.Settings.{Settings}
-use Rattle.sheet_data.specs.Layout.{most_parts, finishes, friction_row, base_row, total_row, all_rows}
+use Rattle.sheet_data.specs.Layout.{most_parts, friction_row, base_row, total_row, all_rows}
 use Rattle.sheet_data.specs.Contents.{Contents, part_at, fore_at, mach_at, reynolds_at}
 use Rattle.sheet_data.specs.Tables.{tab}
 use Rattle.sheet_data.specs.Rows.{laid}
@@ -59,16 +59,16 @@ total_of held rubbed behind = sum_to most_parts held ⊕ rubbed ⊕ behind
 -- a cell by its row's kind, at a Mach and a Reynolds number
 unfoldable pub kind_cell : Contents → Kind → Float → Float → Float
 kind_cell c (part i) M R = part_cell c i M
-kind_cell c (friction j) M R = friction_cell c M R
+kind_cell c (friction j) M R = friction_cell c j M R
 kind_cell c base M R = base_cell c M
-kind_cell c (total j) M R = total_of (λ i. part_cell c i M) (friction_cell c M R) (base_cell c M)
+kind_cell c (total j) M R = total_of (λ i. part_cell c i M) (friction_cell c j M R) (base_cell c M)
 
 -- the cell of row r and column k
 abbrev pub cell_at : Contents → ℕ → ℕ → Float
-cell_at c r k = kind_cell c (kind_at finishes r) (mach_at c.settings k) (reynolds_at c.settings k)
+cell_at c r k = kind_cell c (kind_at c.settings.finishes r) (mach_at c.settings k) (reynolds_at c.settings k)
 
 abbrev pub row_of : Contents → ℕ → List Float
 row_of c r = tab c.settings.count (cell_at c r)
 
 unfoldable pub build : Contents → List Float
-build c = laid (all_rows finishes) (row_of c)
+build c = laid (all_rows c.settings.finishes) (row_of c)

@@ -8,7 +8,7 @@ use Rattle.drag.specs.Friction.{flow_checked}
 use Rattle.sheet_data.specs.declared.Settings.{Settings}
 use Rattle.sheet_data.specs.declared.Part.{Part}
 use Rattle.sheet_data.specs.declared.Sheet.{Sheet}
-use Rattle.sheet_data.specs.Layout.{most_parts, finishes, friction_row, base_row}
+use Rattle.sheet_data.specs.Layout.{most_parts, friction_row, base_row}
 use Rattle.sheet_data.specs.Contents.{Contents, contents_of, blank, mach_at}
 use Rattle.sheet_data.specs.Tests.{part_test, nozzle_test, settings_test, sheet_test}
 use Rattle.sheet_data.specs.Rows.{from}
@@ -39,7 +39,8 @@ remove_at place ps = take place ps ++ drop (place + 1) ps
 abbrev pub with_column : Settings → ℕ → Float → Float → Settings
 with_column s k M R = record {
   reference_diameter = s.reference_diameter;
-  roughness = s.roughness;
+  finishes = s.finishes;
+  roughnesses = s.roughnesses;
   body_fineness = s.body_fineness;
   count = s.count;
   machs = set s.machs k M;
@@ -95,19 +96,19 @@ abbrev pub replaced_rows : ℕ → ℕ → List ℕ
 replaced_rows place count = cond (ltb (place + 1) count) ((place + 1) ∷ place ∷ []) (place ∷ [])
 
 -- "Both .. write the base and total rows"
-abbrev pub nozzle_rows : List ℕ
-nozzle_rows = base_row finishes ∷ []
+abbrev pub nozzle_rows : ℕ → List ℕ
+nozzle_rows F = base_row F ∷ []
 
-unfoldable pub body_rows : List ℕ
-body_rows = nozzle_rows ++ from (friction_row 0) finishes
+unfoldable pub body_rows : ℕ → List ℕ
+body_rows F = nozzle_rows F ++ from (friction_row 0) F
 
 abbrev pub scope : Call → Contents → Scope
-scope (replace place p) c = rows (body_rows ++ replaced_rows place (length c.parts))
+scope (replace place p) c = rows (body_rows c.settings.finishes ++ replaced_rows place (length c.parts))
 scope (insert place p) c = whole
 scope (remove place) c = whole
 scope (set_column k M R) c = column k
-scope (ignite n) c = rows nozzle_rows
-scope burnout c = rows nozzle_rows
+scope (ignite n) c = rows (nozzle_rows c.settings.finishes)
+scope burnout c = rows (nozzle_rows c.settings.finishes)
 
 -- ---- every call
 

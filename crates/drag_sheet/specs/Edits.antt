@@ -6,7 +6,7 @@ use Rattle.sheet_data.specs.declared.Part.{Part}
 use Rattle.sheet_data.specs.declared.Design.{Design}
 use Rattle.sheet_data.specs.declared.Sheet.{Sheet}
 use Rattle.elementary.specs.Constants.{0·0}
-use Rattle.sheet_data.specs.Layout.{most_parts, most_columns, needed}
+use Rattle.sheet_data.specs.Layout.{most_parts, most_columns, most_finishes, needed}
 use Rattle.sheet_data.specs.Contents.{Contents, contents_of}
 use Rattle.sheet_data.specs.Rows.{written}
 use Rattle.drag_sheet.specs.Calls.{with_nozzle, sheet_with, row_test_where, nozzle_rows, body_rows, replaced_rows}
@@ -20,7 +20,8 @@ replaced_in d place p = record { count = d.count; parts = set d.parts place p }
 abbrev pub one_column : Settings → Float → Float → Settings
 one_column s M R = record {
   reference_diameter = s.reference_diameter;
-  roughness = s.roughness;
+  finishes = s.finishes;
+  roughnesses = s.roughnesses;
   body_fineness = s.body_fineness;
   count = 1;
   machs = replicate most_columns M;
@@ -36,10 +37,11 @@ pub record RowAsked (sheet : Sheet) (place width : ℕ) : Type 0 where
 
 -- a column of a sheet asked for, into so many cells, all +0
 pub record ColumnAsked (sheet : Sheet) (column : ℕ) (xs : List Float) : Type 0 where
+  pub finishes : sheet.settings.finishes ≤ most_finishes
   pub columns : sheet.settings.count ≤ most_columns
   pub parts : sheet.design.count ≤ most_parts
   pub inside : column < sheet.settings.count
-  pub zeros : xs ≡ replicate (needed 1) 0·0
+  pub zeros : xs ≡ replicate (needed sheet.settings.finishes 1) 0·0
 
 -- the cell of each row in one column
 abbrev pub cell_of_column : Contents → ℕ → ℕ → Float
@@ -48,14 +50,14 @@ cell_of_column c k r = cell_at c r k
 -- the rows that change with the part at a place
 pub record Changed (sheet : Sheet) (place : ℕ) (xs : List Float) (r : Check) (ys : List Float) : Type 0 where
   pub verdict : r ≡ (row_test (contents_of sheet) place then row_test_where (contents_of sheet) (place + 1))
-  pub cells : ys ≡ chosen (row_test (contents_of sheet) place then row_test_where (contents_of sheet) (place + 1)) xs (overwritten (rows (body_rows ++ replaced_rows place sheet.design.count)) (contents_of sheet) xs)
+  pub cells : ys ≡ chosen (row_test (contents_of sheet) place then row_test_where (contents_of sheet) (place + 1)) xs (overwritten (rows (body_rows sheet.settings.finishes ++ replaced_rows place sheet.design.count)) (contents_of sheet) xs)
 
 -- the same once its own row is built and a part follows
 pub record NextWritten (sheet : Sheet) (place : ℕ) (own xs : List Float) (r : Check) (ys : List Float) : Type 0 where
   pub verdict : r ≡ row_test (contents_of sheet) (place + 1)
-  pub cells : ys ≡ chosen (row_test (contents_of sheet) (place + 1)) xs (overwritten (rows (body_rows ++ (place + 1) ∷ [])) (contents_of sheet) (written (place * sheet.settings.count) own xs))
+  pub cells : ys ≡ chosen (row_test (contents_of sheet) (place + 1)) xs (overwritten (rows (body_rows sheet.settings.finishes ++ (place + 1) ∷ [])) (contents_of sheet) (written (place * sheet.settings.count) own xs))
 
 -- a nozzle diameter put, with its rows: the sheet before and after, and the cells before (xs) and after (ys)
 pub record NozzlePut (n : Float) (sheet : Sheet) (xs : List Float) (left : Sheet) (ys : List Float) : Type 0 where
   pub sheet_left : left ≡ sheet_with (with_nozzle n (contents_of sheet)) sheet
-  pub cells : ys ≡ overwritten (rows nozzle_rows) (with_nozzle n (contents_of sheet)) xs
+  pub cells : ys ≡ overwritten (rows (nozzle_rows sheet.settings.finishes)) (with_nozzle n (contents_of sheet)) xs

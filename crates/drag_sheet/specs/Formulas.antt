@@ -11,7 +11,7 @@ use Rattle.drag.specs.Pressure.{base_drag_coefficient, boattail_factor}
 use Rattle.nose_drag.specs.Curves.{Curve, new_curve, coefficient_of}
 use Rattle.sheet_data.specs.declared.Settings.{Settings}
 use Rattle.sheet_data.specs.declared.Part.{Part}
-use Rattle.sheet_data.specs.Contents.{Contents, part_at, fore_at}
+use Rattle.sheet_data.specs.Contents.{Contents, part_at, fore_at, roughness_at}
 use Rattle.drag_sheet.specs.declared.part.Row.{Row}
 use Rattle.drag_sheet.specs.declared.part.Row.TheVariants.{Widening, Narrowing, Level}
 
@@ -85,13 +85,13 @@ roughness_of (Some x) k = x
 abbrev pub formed_friction : Settings → Float → Float → Float → Float
 formed_friction s k M R = value_of (skin_friction_coefficient R k M) ⊗ value_of (body_friction_form_factor s.body_fineness)
 
--- "× w"
-abbrev pub part_friction : Settings → Part → Float → Float → Float
-part_friction s p M R = formed_friction s (roughness_of p.roughness s.roughness) M R ⊗ p.wetted_ratio
+-- "× w", in finish j: the settings' roughness is that finish's, "a part's own roughness holds in every finish"
+abbrev pub part_friction : Settings → ℕ → Part → Float → Float → Float
+part_friction s j p M R = formed_friction s (roughness_of p.roughness (roughness_at s j)) M R ⊗ p.wetted_ratio
 
 -- "a sum by place from +0"
-unfoldable pub friction_cell : Contents → Float → Float → Float
-friction_cell c M R = sum_to (length c.parts) (λ i. part_friction c.settings (part_at c.parts i) M R)
+unfoldable pub friction_cell : Contents → ℕ → Float → Float → Float
+friction_cell c j M R = sum_to (length c.parts) (λ i. part_friction c.settings j (part_at c.parts i) M R)
 
 -- "the base area becomes d×d - n×n over D×D, and +0 when n is above d"
 unfoldable pub base_ratio : Float → Float → Float → Float

@@ -12,7 +12,7 @@ use Rattle.drag_sheet.specs.Calls.{Answer, Call, Called}
 use Rattle.drag_sheet.specs.Build.{trial, build}
 use Rattle.drag_sheet.specs.Model.{open_decision, opened_model, model_after, model_answers}
 
--- What holds of every sheet value that a program can make: its arrays have their lengths.
+-- What holds of every sheet value that a program can make: the arrays of its columns and of its design have their lengths.
 pub record Arrays (sheet : Sheet) : Type 0 where
   pub machs : length sheet.settings.machs ≡ most_columns
   pub reynolds : length sheet.settings.reynolds ≡ most_columns
@@ -28,7 +28,7 @@ pub data Sequence : Sheet → List Float → List Call → Sheet → List Float 
 -- A sheet and its cells are what the model says: its rows can be built, the cells are one build of it from nothing, and the settings and the design are its own.
 pub record Matches (sheet : Sheet) (xs : List Float) (m : Contents) : Type 0 where
   pub tried : trial m ≡ Ok tt
-  pub rows : take (needed m.settings.count) xs ≡ build m
+  pub rows : take (needed m.settings.finishes m.settings.count) xs ≡ build m
   pub contents : contents_of sheet ≡ m
   pub count : sheet.design.count ≡ length m.parts
 
@@ -36,7 +36,7 @@ pub record Matches (sheet : Sheet) (xs : List Float) (m : Contents) : Type 0 whe
 pub record Agrees (lent : List Float) (start : Contents) (calls : List Call) (sheet : Sheet) (xs : List Float) (outcomes : List Check) : Type 0 where
   pub matches : Matches sheet xs (model_after (length lent) calls start)
   pub answers : map told outcomes ≡ model_answers (length lent) calls start
-  pub beyond : drop (needed start.settings.count) xs ≡ drop (needed start.settings.count) lent
+  pub beyond : drop (needed start.settings.finishes start.settings.count) xs ≡ drop (needed start.settings.finishes start.settings.count) lent
 
 -- Of an open with whatever settings and cells, its answer r and the cells ys that it left: it is answered as the model answers it; refused, it hands back its settings
 -- with no parts and leaves the cells; accepted, every list of calls that follows agrees with the model.

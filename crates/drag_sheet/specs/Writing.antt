@@ -2,10 +2,11 @@
 use Rattle.std.specs.Prelude.{◌≡◌, List, ℕ, ◌-◌, ◌<◌, length, get_or, set, Float, Ok, Err}
 use Rattle.aero_error.specs.Checks.{Check}
 use Rattle.std.specs.Float.{nan}
-use Rattle.sheet_data.specs.Layout.{finishes, friction_row, base_row, total_row, all_rows}
+use Rattle.sheet_data.specs.Layout.{most_parts, friction_row, base_row, total_row, all_rows}
 use Rattle.sheet_data.specs.Contents.{Contents}
 use Rattle.sheet_data.specs.Tables.{tab}
 use Rattle.sheet_data.specs.Rows.{from, row_at, written, rows_written}
+use Rattle.drag_sheet.specs.Formulas.{sum_to}
 use Rattle.drag_sheet.specs.Build.{total_of, cell_at, row_of, trial, build}
 
 abbrev pub chosen : {A : Type 0} → Check → A → A → A
@@ -32,20 +33,23 @@ pub data Scope : Type 0 where
 abbrev pub there : ℕ → List Float → ℕ → ℕ → Float
 there C xs r k = get_or (row_at C xs r) k nan
 
--- "Sums read the cells there": the total row of finish j
-abbrev pub total_there : ℕ → List Float → ℕ → List Float
-total_there C xs j = tab C (λ k. total_of (λ i. there C xs i k) (there C xs (friction_row j) k) (there C xs (base_row finishes) k))
+-- "Sums read the cells there": the part rows that are there added up, and the total row of finish j
+abbrev pub parts_there : ℕ → List Float → List Float
+parts_there C xs = tab C (λ k. sum_to most_parts (λ i. there C xs i k))
 
-unfoldable pub totalled : ℕ → List Float → List Float
-totalled C xs = rows_written C (λ r. total_there C xs (r - total_row finishes 0)) (from (total_row finishes 0) finishes) xs
+abbrev pub total_there : ℕ → ℕ → List Float → ℕ → List Float
+total_there F C xs j = tab C (λ k. total_of (λ i. there C xs i k) (there C xs (friction_row j) k) (there C xs (base_row F) k))
+
+unfoldable pub totalled : ℕ → ℕ → List Float → List Float
+totalled F C xs = rows_written C (λ r. total_there F C xs (r - total_row F 0)) (from (total_row F 0) F) xs
 
 -- a cell for each row, put into column k
-abbrev pub column_put : ℕ → ℕ → List Float → List Float → List Float
-column_put k C values xs = rows_written C (λ r. set (row_at C xs r) k (get_or values r nan)) (from 0 (all_rows finishes)) xs
+abbrev pub column_put : ℕ → ℕ → ℕ → List Float → List Float → List Float
+column_put k F C values xs = rows_written C (λ r. set (row_at C xs r) k (get_or values r nan)) (from 0 (all_rows F)) xs
 
 unfoldable pub overwritten : Scope → Contents → List Float → List Float
-overwritten (rows named) c xs = totalled c.settings.count (rows_written c.settings.count (row_of c) named xs)
-overwritten (column k) c xs = column_put k c.settings.count (tab (all_rows finishes) (λ r. cell_at c r k)) xs
+overwritten (rows named) c xs = totalled c.settings.finishes c.settings.count (rows_written c.settings.count (row_of c) named xs)
+overwritten (column k) c xs = column_put k c.settings.finishes c.settings.count (tab (all_rows c.settings.finishes) (λ r. cell_at c r k)) xs
 overwritten whole c xs = written 0 (build c) xs
 
 -- what a function that writes all rows of a build, or none, says: of its answer, and of the cells before (xs) and after (ys)

@@ -1,15 +1,15 @@
-// The friction row: what the settings' roughness or a part's own decides is worked out once for the row, what a Mach and a Reynolds number
+// The friction rows: what a finish's roughness or a part's own decides is worked out once for the row, what a Mach and a Reynolds number
 // decide once for the column, and the parts' frictions are added by place.
 ghost use Rattle.std.specs.Prelude.{◌≡◌, false, ◌≤◌, length, get_or, replicate};
 ghost use Rattle.std.specs.Float.{nan};
 ghost use Rattle.elementary.specs.Arithmetic.{◌⊕◌, ◌⊗◌};
 ghost use Rattle.elementary.specs.Constants.{0·0};
 ghost use Rattle.drag.specs.Friction.{wall_of, friction_on};
-ghost use Rattle.sheet_data.specs.Layout.{most_columns};
+ghost use Rattle.sheet_data.specs.Layout.{most_parts, most_columns};
 ghost use Rattle.sheet_data.specs.Contents.{contents_of, parts_of, part_at};
 ghost use Rattle.sheet_data.specs.Tables.{tab};
 ghost use Rattle.drag_sheet.specs.Formulas.{value_of, sum_to};
-ghost use Rattle.drag_sheet.specs.Body.{friction_row_cells, SumAsked, any_own, flow_at, Flows, formed, formed_for, four_more};
+ghost use Rattle.drag_sheet.specs.Body.{friction_row_cells, SumAsked, any_own, flow_at, Flows, KeptFlows, formed, formed_for, four_more};
 
 use crate::cells::each_cell;
 use aero_error::AeroError;
@@ -40,6 +40,17 @@ fn flows_of(settings: Settings) -> [Result<Flow, AeroError>; COLUMNS]
         flows[i] = drag::flow_of(true, settings.reynolds[i], settings.machs[i]);
     }
     flows
+}
+
+// The flows where a column is asked more than once: by several finishes, or by a part's own roughness too.
+pub(crate) fn kept_flows(sheet: Sheet) -> Option<[Result<Flow, AeroError>; COLUMNS]>
+    requires { (sheet.settings.count ≤ most_columns) × (sheet.design.count ≤ most_parts) }
+    ensures { KeptFlows sheet result }
+{
+    if 1 < sheet.settings.finishes || any_own(&sheet.design.parts[..sheet.design.count]) {
+        return Some(flows_of(sheet.settings));
+    }
+    None
 }
 
 // Friction times form factor on a wall where each column is asked once, in place of its Mach number.
@@ -100,7 +111,7 @@ fn add_own(
     });
 }
 
-// Adds the parts' frictions by place to `sum`, which holds +0; `common` is friction times form factor at the settings' roughness.
+// Adds the parts' frictions by place to `sum`, which holds +0; `common` is friction times form factor at the settings' roughness in the finish.
 fn add_by_place(
     parts: &[Part],
     common: &[f64],
@@ -141,19 +152,17 @@ fn add_common(parts: &[Part], common: &[f64], sum: &mut [f64])
     }
 }
 
-// The friction row where parts have roughnesses of their own, added up in `sum`, which holds +0.
-fn sum_own(sheet: Sheet, sum: &mut [f64])
-    requires { SumAsked sheet sum.old }
-    ensures { sum.new ≡ friction_row_cells (contents_of sheet) }
+// The friction row of a finish by the flow of each column, added up in `sum`, which holds +0.
+fn sum_kept(sheet: Sheet, finish: usize, flows: &[Result<Flow, AeroError>], sum: &mut [f64])
+    requires { SumAsked sheet finish sum.old × Flows sheet.settings flows.now × (length flows.now ≡ sheet.settings.count) }
+    ensures { sum.new ≡ friction_row_cells (contents_of sheet) finish }
 {
     let settings = sheet.settings;
     let count = settings.count;
     let form = drag::body_friction_form_factor(settings.body_fineness).unwrap_or(0.0);
-    let all = flows_of(settings);
-    let flows = &all[..count];
     let mut common = [0.0; COLUMNS];
     fill_on(
-        drag::wall_of(settings.roughness),
+        drag::wall_of(settings.roughnesses[finish]),
         form,
         flows,
         &mut common[..count],
@@ -162,15 +171,15 @@ fn sum_own(sheet: Sheet, sum: &mut [f64])
     add_by_place(parts, &common[..count], form, flows, sum);
 }
 
-// The same where none has. For speed each column is asked once, and no flow is kept.
-fn sum_common(sheet: Sheet, sum: &mut [f64])
-    requires { SumAsked sheet sum.old × (any_own (parts_of sheet.design) ≡ false) }
-    ensures { sum.new ≡ friction_row_cells (contents_of sheet) }
+// The same where no part has a roughness of its own. For speed each column is asked once, and no flow is kept.
+fn sum_common(sheet: Sheet, finish: usize, sum: &mut [f64])
+    requires { SumAsked sheet finish sum.old × (any_own (parts_of sheet.design) ≡ false) }
+    ensures { sum.new ≡ friction_row_cells (contents_of sheet) finish }
 {
     let settings = sheet.settings;
     let count = settings.count;
     let form = drag::body_friction_form_factor(settings.body_fineness).unwrap_or(0.0);
-    let wall = drag::wall_of(settings.roughness);
+    let wall = drag::wall_of(settings.roughnesses[finish]);
     let mut common = settings.machs;
     fill_once(
         wall,
@@ -185,14 +194,18 @@ fn sum_common(sheet: Sheet, sum: &mut [f64])
     );
 }
 
-// The friction row, added up in `sum`, which holds +0.
-pub(crate) fn sum_parts(sheet: Sheet, sum: &mut [f64])
-    requires { SumAsked sheet sum.old }
-    ensures { sum.new ≡ friction_row_cells (contents_of sheet) }
+// The friction row of a finish, added up in `sum`, which holds +0.
+pub(crate) fn sum_parts(
+    sheet: Sheet,
+    finish: usize,
+    flows: &Option<[Result<Flow, AeroError>; COLUMNS]>,
+    sum: &mut [f64],
+)
+    requires { SumAsked sheet finish sum.old × KeptFlows sheet flows.now }
+    ensures { sum.new ≡ friction_row_cells (contents_of sheet) finish }
 {
-    if any_own(&sheet.design.parts[..sheet.design.count]) {
-        sum_own(sheet, sum);
-    } else {
-        sum_common(sheet, sum);
+    match flows {
+        Some(flows) => sum_kept(sheet, finish, &flows[..sheet.settings.count], sum),
+        None => sum_common(sheet, finish, sum),
     }
 }

@@ -20,7 +20,7 @@ mod rows;
 use aero_error::{AeroError, Rule, unless};
 use sheet_data::checks::{check_nozzle, check_part, check_settings, check_sheet};
 use sheet_data::layout::{COLUMNS, PARTS, ROWS};
-use sheet_data::{Part, Settings, Sheet, layout};
+use sheet_data::{Part, Settings, Sheet};
 
 // The rows of a sheet with these settings and no parts, once the settings have passed.
 fn write_blank(settings: Settings, cells: &mut [f64]) -> Result<(), AeroError>
@@ -110,9 +110,10 @@ pub fn set_column(
 {
     check_set_column(*sheet, column, mach, reynolds, cells.len())?;
     let mut values = [0.0; ROWS];
-    let all = layout::rows();
+    let layout = rows::layout_of(sheet.settings);
+    let all = layout.rows();
     rows::build_column(*sheet, column, mach, reynolds, &mut values[..all])?;
-    rows::write_column(column, sheet.settings.count, &values[..all], cells);
+    rows::write_column(column, layout, &values[..all], cells);
     *sheet = edits::with_column(*sheet, column, mach, reynolds);
     Ok(())
 }
@@ -134,10 +135,8 @@ fn row_at(sheet: Sheet, place: usize, out: &mut [f64]) -> Result<(), AeroError>
     part::part_row(sheet.settings, fore, sheet.design.parts[place], out)
 }
 
-// In the two functions below the call has tested the place; the count is C's, so no type says it.
-
 // Writes a part's own row, which is built, and the next part's, and the friction, base and total rows; or nothing, where the next
-// part's row cannot be built.
+// part's row cannot be built. Here and below the call has tested the place; the count is C's, so no type says it.
 fn write_two(sheet: Sheet, place: usize, own: &[f64], cells: &mut [f64]) -> Result<(), AeroError>
     requires { Fits sheet (length cells.old) × (place + 1 < sheet.design.count) × (length own.now ≡ sheet.settings.count) }
     ensures { NextWritten sheet place own.now cells.old result cells.new }
@@ -146,8 +145,9 @@ fn write_two(sheet: Sheet, place: usize, own: &[f64], cells: &mut [f64]) -> Resu
     let after = place + 1;
     let mut next = [0.0; COLUMNS];
     row_at(sheet, after, &mut next[..count])?;
-    rows::write_row(rows::offset(place, count), own, cells);
-    rows::write_row(rows::offset(after, count), &next[..count], cells);
+    let layout = rows::layout_of(sheet.settings);
+    rows::write_row(rows::offset(layout, place), own, cells);
+    rows::write_row(rows::offset(layout, after), &next[..count], cells);
     rows::write_body(sheet, cells);
     Ok(())
 }
@@ -163,7 +163,8 @@ fn write_changed(sheet: Sheet, place: usize, cells: &mut [f64]) -> Result<(), Ae
     if place + 1 < sheet.design.count {
         return write_two(sheet, place, &own[..count], cells);
     }
-    rows::write_row(rows::offset(place, count), &own[..count], cells);
+    let layout = rows::layout_of(sheet.settings);
+    rows::write_row(rows::offset(layout, place), &own[..count], cells);
     rows::write_body(sheet, cells);
     Ok(())
 }

@@ -1,36 +1,46 @@
 // The rows of a sheet over lent cells: where one begins, one written, the last rows written anew, all of them built from nothing, and a column.
-// The functions that write keep the sheet, or its count of columns, and the lent cells as parameters of their own, with `Fits` in each contract: a
+// The functions that write keep the sheet, or its layout, and the lent cells as parameters of their own, with `Fits` in each contract: a
 // struct of both would say it once, and each of its methods would have to ensure in exchange that the lent cells stay the same ones (`ghost_name`).
-// A finish is a plain number below `finishes()`, as a row is below `rows()`.
-ghost use Rattle.std.specs.Prelude.{◌≡◌, ◌+◌, ◌*◌, ◌≤◌, ◌<◌, length, get_or, replicate};
+// A finish is a plain number below the layout's `finishes`, as a row is below `rows()`.
+ghost use Rattle.std.specs.Prelude.{◌≡◌, ◌+◌, ◌*◌, ◌≤◌, ◌<◌, length, get_or, take, replicate};
 ghost use Rattle.std.specs.Float.{nan};
 ghost use Rattle.elementary.specs.Arithmetic.{◌⊕◌};
 ghost use Rattle.elementary.specs.Constants.{0·0};
-ghost use Rattle.sheet_data.specs.Layout.{most_parts, most_columns, finishes as finish_count, friction_row, base_row, total_row, all_rows, needed, RowPlace};
+ghost use Rattle.sheet_data.specs.Layout.{most_columns, most_finishes, friction_row, base_row, total_row, all_rows, needed, RowPlace};
 ghost use Rattle.sheet_data.specs.Contents.{contents_of, Fits};
 ghost use Rattle.sheet_data.specs.Tables.{tab};
 ghost use Rattle.sheet_data.specs.Rows.{from, written, rows_written};
-ghost use Rattle.drag_sheet.specs.Formulas.{sum_to};
+ghost use Rattle.drag_sheet.specs.Body.{KeptFlows};
 ghost use Rattle.drag_sheet.specs.Build.{row_of, trial, build};
-ghost use Rattle.drag_sheet.specs.Writing.{there, total_there, totalled, column_put, Filled, AllWritten};
+ghost use Rattle.drag_sheet.specs.Writing.{parts_there, total_there, totalled, column_put, Filled, AllWritten};
 ghost use Rattle.drag_sheet.specs.Calls.{nozzle_rows, body_rows, set_column as column_call, after, column_trial};
 ghost use Rattle.drag_sheet.specs.Edits.{ColumnAsked, cell_of_column};
 
 use crate::cells::each_cell;
 use crate::{body, edits, friction, part};
 use aero_error::AeroError;
-use sheet_data::Sheet;
-use sheet_data::layout::{
-    CELLS, COLUMNS, PARTS, base_row, finishes, friction_row, rows, total_row,
-};
+use drag::Flow;
+use sheet_data::layout::{CELLS, COLUMNS, FRICTION_ROW, Layout, PARTS};
 use sheet_data::rows::Rows;
+use sheet_data::{Settings, Sheet};
+
+// Where the cells of a sheet with these settings lie. That finishes and columns are few stands in the contract: the counts are C's.
+pub(crate) fn layout_of(settings: Settings) -> Layout
+    requires { (settings.finishes ≤ most_finishes) × (settings.count ≤ most_columns) }
+    ensures { (result.finishes ≡ settings.finishes) × (result.columns ≡ settings.count) }
+{
+    Layout {
+        finishes: settings.finishes,
+        columns: settings.count,
+    }
+}
 
 // Where a row begins.
-pub(crate) fn offset(row: usize, count: usize) -> usize
-    requires { (row < all_rows finish_count) × (count ≤ most_columns) }
-    ensures { RowPlace row count result }
+pub(crate) fn offset(layout: Layout, row: usize) -> usize
+    requires { row < all_rows layout.finishes }
+    ensures { RowPlace layout.finishes layout.columns row result }
 {
-    row * count
+    row * layout.columns
 }
 
 // Writes cells from `at` on.
@@ -51,84 +61,95 @@ fn add_row(sum: &mut [f64], row: &[f64])
 
 // Adds up the part rows, column by column, into `sum`, which holds +0.
 fn add_parts(rows: Rows, sum: &mut [f64])
-    requires { sum.old ≡ replicate rows.columns 0·0 }
-    ensures { sum.new ≡ tab rows.entry.columns (λ k. sum_to most_parts (λ i. there rows.entry.columns rows.entry.cells.now i k)) }
+    requires { sum.old ≡ replicate rows.layout.columns 0·0 }
+    ensures { sum.new ≡ parts_there rows.entry.layout.columns rows.entry.cells.now }
 {
     for place in 0usize..PARTS {
         add_row(sum, rows.row(place));
     }
 }
 
-// The total row of a finish: the part rows, its friction row and the base row as they stand, added into `sum`, which holds +0.
-#[tactic(auto, using(sheet_data::specs::Layout::finishes_few))]
+// The total row of a finish: its friction row and the base row as they stand, added to `sum`, which holds the part rows added up.
 fn sum_rows(finish: usize, rows: Rows, sum: &mut [f64])
-    requires { (finish < finish_count) × (sum.old ≡ replicate rows.columns 0·0) }
-    ensures { sum.new ≡ total_there rows.entry.columns rows.entry.cells.now finish }
+    requires { (finish < rows.layout.finishes) × (sum.old ≡ parts_there rows.layout.columns rows.cells.now) }
+    ensures { sum.new ≡ total_there rows.entry.layout.finishes rows.entry.layout.columns rows.entry.cells.now finish }
 {
-    add_parts(rows, sum);
-    add_row(sum, rows.row(friction_row() + finish));
-    add_row(sum, rows.row(base_row()));
+    add_row(sum, rows.row(FRICTION_ROW + finish));
+    add_row(sum, rows.row(rows.layout.base_row()));
 }
 
-// Writes the total row of a finish.
-#[tactic(auto, using(crate::proofs::Taken::zero_row, sheet_data::specs::Layout::finishes_few))]
-fn write_total(finish: usize, count: usize, cells: &mut [f64])
-    requires { (finish < finish_count) × (count ≤ most_columns) × (needed count ≤ length cells.old) }
-    ensures { cells.new ≡ written (total_row finish_count finish * count) (total_there count cells.old finish) cells.old }
+// Writes the total row of a finish; `parts` begins with the part rows added up.
+fn write_total(finish: usize, layout: Layout, parts: &[f64; COLUMNS], cells: &mut [f64])
+    requires { (finish < layout.finishes) × (needed layout.finishes layout.columns ≤ length cells.old) × (take layout.columns parts.now ≡ parts_there layout.columns cells.old) }
+    ensures { cells.new ≡ written (total_row layout.finishes finish * layout.columns) (total_there layout.finishes layout.columns cells.old finish) cells.old }
 {
-    let mut sum = [0.0; COLUMNS];
+    let mut sum = *parts;
+    let count = layout.columns;
     let rows = Rows {
-        columns: count,
+        layout,
         cells: &*cells,
     };
     sum_rows(finish, rows, &mut sum[..count]);
-    let at = offset(total_row() + finish, count);
+    let at = offset(layout, layout.total_row() + finish);
     write_row(at, &sum[..count], cells);
 }
 
-// Writes the total rows. They add the cells that are there. Alike with `write_frictions` but for the row: two loops of one line, and one loop over a
-// closure would be no shorter.
-fn write_totals(count: usize, cells: &mut [f64])
-    requires { (count ≤ most_columns) × (needed count ≤ length cells.old) }
-    ensures { cells.new ≡ totalled count cells.old }
+// Writes the total rows. They add the cells that are there; the part rows, which all of them begin with, are added up once.
+#[tactic(auto, using(crate::proofs::Taken::zero_row))]
+fn write_totals(layout: Layout, cells: &mut [f64])
+    requires { needed layout.finishes layout.columns ≤ length cells.old }
+    ensures { cells.new ≡ totalled layout.finishes layout.columns cells.old }
 {
-    for finish in 0usize..finishes() {
-        write_total(finish, count, cells);
+    let mut parts = [0.0; COLUMNS];
+    let rows = Rows {
+        layout,
+        cells: &*cells,
+    };
+    add_parts(rows, &mut parts[..layout.columns]);
+    for finish in 0usize..layout.finishes {
+        write_total(finish, layout, &parts, cells);
     }
 }
 
-// Writes the friction row of a finish.
-#[tactic(auto, using(crate::proofs::Taken::zero_row, sheet_data::specs::Layout::finishes_few))]
-fn write_friction(sheet: Sheet, finish: usize, cells: &mut [f64])
-    requires { Fits sheet (length cells.old) × (finish < finish_count) }
+// Writes the friction row of a finish; `flows` are what `kept_flows` kept.
+#[tactic(auto, using(crate::proofs::Taken::zero_row))]
+fn write_friction(
+    sheet: Sheet,
+    finish: usize,
+    flows: &Option<[Result<Flow, AeroError>; COLUMNS]>,
+    cells: &mut [f64],
+)
+    requires { Fits sheet (length cells.old) × (finish < sheet.settings.finishes) × KeptFlows sheet flows.now }
     ensures { cells.new ≡ written (friction_row finish * sheet.settings.count) (row_of (contents_of sheet) (friction_row finish)) cells.old }
 {
     let mut row = [0.0; COLUMNS];
     let count = sheet.settings.count;
-    let at = offset(friction_row() + finish, count);
-    friction::sum_parts(sheet, &mut row[..count]);
+    let at = offset(layout_of(sheet.settings), FRICTION_ROW + finish);
+    friction::sum_parts(sheet, finish, flows, &mut row[..count]);
     write_row(at, &row[..count], cells);
 }
 
 // Writes the friction rows.
 fn write_frictions(sheet: Sheet, cells: &mut [f64])
     requires { Fits sheet (length cells.old) }
-    ensures { cells.new ≡ rows_written sheet.settings.count (row_of (contents_of sheet)) (from (friction_row 0) finish_count) cells.old }
+    ensures { cells.new ≡ rows_written sheet.settings.count (row_of (contents_of sheet)) (from (friction_row 0) sheet.settings.finishes) cells.old }
 {
-    for finish in 0usize..finishes() {
-        write_friction(sheet, finish, cells);
+    let flows = friction::kept_flows(sheet);
+    for finish in 0usize..sheet.settings.finishes {
+        write_friction(sheet, finish, &flows, cells);
     }
 }
 
 // Writes the base row.
 fn write_base(sheet: Sheet, cells: &mut [f64])
     requires { Fits sheet (length cells.old) }
-    ensures { cells.new ≡ written (base_row finish_count * sheet.settings.count) (row_of (contents_of sheet) (base_row finish_count)) cells.old }
+    ensures { cells.new ≡ written (base_row sheet.settings.finishes * sheet.settings.count) (row_of (contents_of sheet) (base_row sheet.settings.finishes)) cells.old }
 {
     let settings = sheet.settings;
     let count = settings.count;
     let area = body::base_area(sheet);
-    let at = offset(base_row(), count);
+    let layout = layout_of(settings);
+    let at = offset(layout, layout.base_row());
     let end = at + count;
     body::fill_base(area, &settings.machs[..count], &mut cells[at..end]);
 }
@@ -136,17 +157,16 @@ fn write_base(sheet: Sheet, cells: &mut [f64])
 // Writes the base and total rows anew.
 pub(crate) fn write_nozzle_rows(sheet: Sheet, cells: &mut [f64])
     requires { Fits sheet (length cells.old) }
-    ensures { cells.new ≡ totalled sheet.settings.count (rows_written sheet.settings.count (row_of (contents_of sheet)) nozzle_rows cells.old) }
+    ensures { cells.new ≡ totalled sheet.settings.finishes sheet.settings.count (rows_written sheet.settings.count (row_of (contents_of sheet)) (nozzle_rows sheet.settings.finishes) cells.old) }
 {
-    let count = sheet.settings.count;
     write_base(sheet, cells);
-    write_totals(count, cells);
+    write_totals(layout_of(sheet.settings), cells);
 }
 
 // Writes the friction, base and total rows anew.
 pub(crate) fn write_body(sheet: Sheet, cells: &mut [f64])
     requires { Fits sheet (length cells.old) }
-    ensures { cells.new ≡ totalled sheet.settings.count (rows_written sheet.settings.count (row_of (contents_of sheet)) body_rows cells.old) }
+    ensures { cells.new ≡ totalled sheet.settings.finishes sheet.settings.count (rows_written sheet.settings.count (row_of (contents_of sheet)) (body_rows sheet.settings.finishes) cells.old) }
 {
     write_frictions(sheet, cells);
     write_nozzle_rows(sheet, cells);
@@ -160,10 +180,11 @@ fn part_rows(sheet: Sheet, cells: &mut [f64]) -> Result<(), AeroError>
     let settings = sheet.settings;
     let design = sheet.design;
     let count = settings.count;
+    let layout = layout_of(settings);
     let mut fore = 0.0;
     // The rows by place: a sheet may have no columns, so they are no chunks.
     for (place, part) in design.parts[..design.count].iter().enumerate() {
-        let at = offset(place, count);
+        let at = offset(layout, place);
         let end = at + count;
         part::part_row(settings, fore, *part, &mut cells[at..end])?;
         fore = part.aft_diameter;
@@ -173,7 +194,7 @@ fn part_rows(sheet: Sheet, cells: &mut [f64]) -> Result<(), AeroError>
 
 // All rows of a sheet, built from nothing into cells that hold +0.
 pub(crate) fn build_rows(sheet: Sheet, cells: &mut [f64]) -> Result<(), AeroError>
-    requires { Fits sheet (length cells.old) × (cells.old ≡ replicate (needed sheet.settings.count) 0·0) }
+    requires { Fits sheet (length cells.old) × (cells.old ≡ replicate (needed sheet.settings.finishes sheet.settings.count) 0·0) }
     ensures { Filled (trial (contents_of sheet)) (build (contents_of sheet)) result cells.new }
 {
     part_rows(sheet, cells)?;
@@ -190,7 +211,7 @@ pub(crate) fn build_column(
     cells: &mut [f64],
 ) -> Result<(), AeroError>
     requires { ColumnAsked sheet column cells.old }
-    ensures { Filled (column_trial column (after (column_call column mach reynolds) sheet)) (tab (all_rows finish_count) (cell_of_column (after (column_call column mach reynolds) sheet) column)) result cells.new }
+    ensures { Filled (column_trial column (after (column_call column mach reynolds) sheet)) (tab (all_rows sheet.settings.finishes) (cell_of_column (after (column_call column mach reynolds) sheet) column)) result cells.new }
 {
     let mut one = sheet;
     one.settings = edits::one_column(sheet.settings, mach, reynolds);
@@ -203,21 +224,20 @@ pub(crate) fn write_all(sheet: Sheet, cells: &mut [f64]) -> Result<(), AeroError
     ensures { AllWritten (contents_of sheet) cells.old result cells.new }
 {
     let mut scratch = [0.0; CELLS];
-    let count = sheet.settings.count;
-    let all = rows() * count;
+    let all = layout_of(sheet.settings).cells();
     build_rows(sheet, &mut scratch[..all])?;
     write_row(0, &scratch[..all], cells);
     Ok(())
 }
 
 // Writes a cell for each row into a column.
-pub(crate) fn write_column(column: usize, count: usize, values: &[f64], cells: &mut [f64])
-    requires { (column < count) × (count ≤ most_columns) × (needed count ≤ length cells.old) × (length values.now ≡ all_rows finish_count) }
-    ensures { cells.new ≡ column_put column count values.now cells.old }
+pub(crate) fn write_column(column: usize, layout: Layout, values: &[f64], cells: &mut [f64])
+    requires { (column < layout.columns) × (needed layout.finishes layout.columns ≤ length cells.old) × (length values.now ≡ all_rows layout.finishes) }
+    ensures { cells.new ≡ column_put column layout.finishes layout.columns values.now cells.old }
 {
     // By place: of what is written through a zip nothing is known.
     for (row, value) in values.iter().enumerate() {
-        let at = offset(row, count);
+        let at = offset(layout, row);
         cells[at + column] = *value;
     }
 }

@@ -9,7 +9,7 @@ use Rattle.sheet_data.specs.declared.Settings.{Settings}
 use Rattle.sheet_data.specs.declared.Part.{Part}
 use Rattle.sheet_data.specs.declared.Design.{Design}
 use Rattle.sheet_data.specs.declared.Sheet.{Sheet}
-use Rattle.sheet_data.specs.Layout.{most_parts, most_columns, needed}
+use Rattle.sheet_data.specs.Layout.{most_parts, most_columns, most_finishes, needed}
 
 pub record Contents : Type 0 where
   pub settings : Settings
@@ -47,6 +47,10 @@ unfoldable pub fore_at : List Part → ℕ → Float
 fore_at ps zero = 0·0
 fore_at ps (suc i) = (part_at ps i).aft_diameter
 
+-- the settings' roughness in a finish
+abbrev pub roughness_at : Settings → ℕ → Float
+roughness_at s j = get_or s.roughnesses j nan
+
 -- a column's Mach and Reynolds number
 abbrev pub mach_at : Settings → ℕ → Float
 mach_at s k = get_or s.machs k nan
@@ -56,6 +60,7 @@ reynolds_at s k = get_or s.reynolds k nan
 
 -- a sheet within its bounds, with its rows within so many cells
 pub record Fits (sheet : Sheet) (cells : ℕ) : Type 0 where
+  pub finishes : sheet.settings.finishes ≤ most_finishes
   pub columns : sheet.settings.count ≤ most_columns
   pub parts : sheet.design.count ≤ most_parts
-  pub room : needed sheet.settings.count ≤ cells
+  pub room : needed sheet.settings.finishes sheet.settings.count ≤ cells

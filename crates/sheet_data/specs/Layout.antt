@@ -1,5 +1,5 @@
--- Where the cells of a sheet lie (docs/REFERENCE.md, Sheet: "16 part rows, friction, base, total"), as functions of how many finishes F and columns C there are. A
--- finish has a friction row and a total row; a sheet has one.
+-- Where the cells of a sheet lie (docs/REFERENCE.md, Sheet), as functions of how many finishes F and columns C there are: "16 part rows", then "friction and total get a
+-- row for each, all friction rows before base and all totals after it".
 use Rattle.std.specs.Prelude.{◌≡◌, ℕ, ◌+◌, ◌*◌, ◌≤◌}
 use Rattle.std.proofs.Common.{mul-le-mul, arith}
 
@@ -10,11 +10,7 @@ abbrev pub most_columns : ℕ
 most_columns = 32
 
 abbrev pub most_finishes : ℕ
-most_finishes = 1
-
--- how many finishes a sheet has. It is shut: the code's own `finishes` is proved to be it, and all else rests on `finishes_some` and `finishes_few`
-unfoldable pub finishes : ℕ
-finishes = 1
+most_finishes = 4
 
 -- the friction row of finish j, the base row, and the total row of finish j
 abbrev pub friction_row : ℕ → ℕ
@@ -24,31 +20,23 @@ abbrev pub base_row : ℕ → ℕ
 base_row F = most_parts + F
 
 abbrev pub total_row : ℕ → ℕ → ℕ
-total_row F j = most_parts + F + 1 + j
+total_row F j = base_row F + 1 + j
 
 abbrev pub all_rows : ℕ → ℕ
 all_rows F = most_parts + 1 + 2 * F
 
--- the cells that a sheet of C columns needs
-abbrev pub needed : ℕ → ℕ
-needed C = all_rows finishes * C
+-- the cells that a sheet of F finishes and C columns needs
+abbrev pub needed : ℕ → ℕ → ℕ
+needed F C = all_rows F * C
 
 abbrev pub most_cells : ℕ
-most_cells = all_rows most_finishes * most_columns
+most_cells = needed most_finishes most_columns
 
 -- where a row begins among C columns, with room for it
-pub record RowPlace (row C at : ℕ) : Type 0 where
+pub record RowPlace (F C row at : ℕ) : Type 0 where
   pub place : at ≡ row * C
-  pub inside : at + C ≤ needed C
+  pub inside : at + C ≤ needed F C
   pub small : at + C ≤ most_cells
 
-pub finishes_some : 1 ≤ finishes
-unfolding finishes
-finishes_some = omega arith
-
-pub finishes_few : finishes ≤ most_finishes
-unfolding finishes
-finishes_few = omega arith
-
-pub needed_few : (C : ℕ) → C ≤ most_columns → needed C ≤ most_cells
-needed_few C h = mul-le-mul {n₂ = all_rows most_finishes} {m₂ = most_columns} (omega (arith, finishes_few)) h
+pub needed_few : (F C : ℕ) → F ≤ most_finishes → C ≤ most_columns → needed F C ≤ most_cells
+needed_few F C f c = mul-le-mul {n₂ = all_rows most_finishes} {m₂ = most_columns} (omega arith) c

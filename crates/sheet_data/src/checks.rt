@@ -1,11 +1,11 @@
 // The tests of what a call is given, in the order of docs/REFERENCE.md, Order of tests: the settings, a part, and a whole sheet with the number of cells
 // lent.
 ghost use Rattle.std.specs.Prelude.{◌≡◌, ◌≤◌};
-ghost use Rattle.sheet_data.specs.Layout.{most_parts, most_columns};
+ghost use Rattle.sheet_data.specs.Layout.{most_parts, most_columns, most_finishes};
 ghost use Rattle.sheet_data.specs.Contents.{parts_of, contents_of};
-ghost use Rattle.sheet_data.specs.Tests.{in_interval, own_test, columns_test, body_test, settings_test, nozzle_test, part_test, parts_test, sheet_test};
+ghost use Rattle.sheet_data.specs.Tests.{in_interval, own_test, columns_test, finishes_test, roughnesses_test, body_test, settings_test, nozzle_test, part_test, parts_test, sheet_test};
 
-use crate::layout::{COLUMNS, PARTS, rows};
+use crate::layout::{COLUMNS, FINISHES, Layout, PARTS};
 use crate::{Design, Part, Settings, Sheet};
 use aero_error::{AeroError, Quantity, Rule, unless};
 
@@ -37,12 +37,31 @@ fn check_columns(settings: Settings) -> Result<(), AeroError>
     Ok(())
 }
 
-// D, the roughness and B.
+// The number of finishes, of settings or in a card.
+pub fn check_finishes(finishes: usize) -> Result<(), AeroError>
+    ensures { result ≡ finishes_test finishes }
+{
+    unless(finishes == 0 || FINISHES < finishes, Rule::FinishCount)
+}
+
+#[tactic(auto, unfolding(crate::specs::Tests::roughnesses_test), using(aero_error::specs::CheckLaws::up_none, aero_error::specs::CheckLaws::up_end, aero_error::proofs::HandedOn::one_more))]
+fn check_roughnesses(settings: Settings) -> Result<(), AeroError>
+    requires { settings.finishes ≤ most_finishes }
+    ensures { result ≡ roughnesses_test settings }
+{
+    for roughness in &settings.roughnesses[..settings.finishes] {
+        in_interval(0.0, *roughness, MOST_ROUGHNESS)?;
+    }
+    Ok(())
+}
+
+// D, the finishes with their roughnesses, and B.
 fn check_body(settings: Settings) -> Result<(), AeroError>
     ensures { result ≡ body_test settings }
 {
     in_interval(LEAST_REFERENCE, settings.reference_diameter, MOST_LENGTH)?;
-    in_interval(0.0, settings.roughness, MOST_ROUGHNESS)?;
+    check_finishes(settings.finishes)?;
+    check_roughnesses(settings)?;
     aero_error::check_dimension(Quantity::BodyFineness, settings.body_fineness, false)
 }
 
@@ -55,7 +74,11 @@ pub fn check_settings(settings: Settings, cells: usize) -> Result<(), AeroError>
     unless(COLUMNS < count, Rule::TooManyColumns)?;
     check_body(settings)?;
     check_columns(settings)?;
-    unless(cells < rows() * count, Rule::TooFewCells)
+    let layout = Layout {
+        finishes: settings.finishes,
+        columns: count,
+    };
+    unless(cells < layout.cells(), Rule::TooFewCells)
 }
 
 // A nozzle diameter, held or given.

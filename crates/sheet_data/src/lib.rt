@@ -11,22 +11,23 @@ pub mod checks;
 pub mod layout;
 pub mod rows;
 
-use layout::{COLUMNS, PARTS};
+use layout::{COLUMNS, FINISHES, PARTS};
 use shapes::NoseShape;
 
-// The reference diameter D, the roughness, the body fineness B, and `count` columns of a Mach and a
-// Reynolds number.
+// The reference diameter D, `finishes` roughnesses, the body fineness B, and `count` columns of a Mach
+// and a Reynolds number.
 #[derive(Clone, Copy, Debug, PartialEq)]
 pub struct Settings {
     pub reference_diameter: f64,
-    pub roughness: f64,
+    pub finishes: usize,
+    pub roughnesses: [f64; FINISHES],
     pub body_fineness: f64,
     pub count: usize,
     pub machs: [f64; COLUMNS],
     pub reynolds: [f64; COLUMNS],
 }
 
-// A part: its shape, length L, aft diameter d, joint angle, wetted ratio w, and a roughness of its own, where it hasn't the settings' one.
+// A part: its shape, length L, aft diameter d, joint angle, wetted ratio w, and a roughness of its own in every finish, where it hasn't the settings' ones.
 #[derive(Clone, Copy, Debug, PartialEq)]
 pub struct Part {
     pub shape: NoseShape,

@@ -2,3 +2,4 @@
 pub mod Puts
 pub mod Prefix
 pub mod NoBytes
+pub mod OneFinish

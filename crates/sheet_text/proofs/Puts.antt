@@ -3,6 +3,7 @@ use mathlib.Core.Path.{◌≡◌, refl, sym, ap, ◌∙◌}
 use mathlib.Core.Bool.{Bool, true, false, cond}
 use mathlib.Core.List.{List, [], ◌∷◌, ◌++◌, append_assoc, append-nil}
 use Prim.Native.Nat.{ℕ, zero, suc, ◌+◌, ◌-◌, ◌*◌, ◌/◌, ◌%◌, ◌≤◌, ◌<◌}
+use native.Mathlib.Nat.{mul-suc}
 use native.Mathlib.Omega.{arith}
 use lib.ListN.{length, set, take, drop, get_or, length-append}
 use lib.Seq.{sets, sets-eq}
@@ -15,8 +16,8 @@ use lib.Ieee.{Float, to_bits, binary64}
 use Rattle.sheet_data.specs.Layout.{most_columns}
 use Rattle.sheet_data.specs.Rows.{row_at}
 use Rattle.sheet_text.specs.declared.text.Text.{Text}
-use Rattle.sheet_text.specs.Bytes.{digits, line_feed, hex_digit, hex_digits, decimal, Prints}
-use Rattle.sheet_text.specs.Text.{number_text_size, part_text, most_text, number_text, numbers_text, line_text, part_word, part_name, part_lines, printed, Printed, answer_text}
+use Rattle.sheet_text.specs.Bytes.{digits, space, line_feed, hex_digit, hex_digits, decimal, Prints}
+use Rattle.sheet_text.specs.Text.{number_text_size, numbered_text, most_text, number_text, numbers_text, line_text, numbered_name, row_line, row_lines, printed, Printed, answer_text}
 
 -- two texts, one after the other
 pub sets_append : (vs ws xs : List ℕ) (i : ℕ) → sets xs i (vs ++ ws) ≡ sets (sets xs i vs) (i + length vs) ws
@@ -77,12 +78,13 @@ decimal_long n = by_test (ltb n 10)
     by_test true = omega arith
     by_test false = omega arith
 
-pub part_long : (place : ℕ) (row : List Float) → length row ≤ most_columns → length (line_text (part_name place) row) ≤ part_text
-part_long place row h =
-    let a = line_long (part_name place) row in
-    let b = length-append part_word (decimal place) in
-    let d = decimal_long place in
-    omega (arith, a, b, d)
+-- a row's name and its line, numbered or not
+name_long : (word : List ℕ) (numbered : Bool) (j : ℕ) → length (numbered_name word numbered j) ≤ length word + 3
+name_long word true j = omega (arith, length-append word (space ∷ decimal j), decimal_long j)
+name_long word false j = omega arith
+
+pub row_long : (word : List ℕ) (numbered : Bool) (j : ℕ) (row : List Float) → length row ≤ most_columns → length (line_text (numbered_name word numbered j) row) ≤ numbered_text word
+row_long word numbered j row h = omega (arith, line_long (numbered_name word numbered j) row, name_long word numbered j)
 
 -- ---- loops
 
@@ -112,30 +114,32 @@ numbers_suc (x ∷ xs) (suc i) d h =
 pub numbers_more : (row : List Float) (i : ℕ) (d : Float) → i < length row → numbers_text (take (i + 1) row) ≡ numbers_text (take i row) ++ number_text (get_or row i d)
 numbers_more row i d h = rw (add-one i) (numbers_suc row i d h)
 
--- one part's line more
-parts_suc : (n place C : ℕ) (cells : List Float) → part_lines (suc n) place C cells ≡ part_lines n place C cells ++ line_text (part_name (place + n)) (row_at C cells (place + n))
-unfolding part_lines
-parts_suc zero place C cells =
-    let e : place ≡ place + 0 = omega arith in
-    append-nil _ ∙ ap (λ (k : ℕ). line_text (part_name k) (row_at C cells k)) e
-parts_suc (suc n) place C cells =
-    let line : ℕ → List ℕ = λ k. line_text (part_name k) (row_at C cells k) in
-    let e : place + 1 + n ≡ place + suc n = omega arith in
-    ap (λ (t : List ℕ). line place ++ t) (parts_suc n (place + 1) C cells ∙ ap (λ (k : ℕ). part_lines n (place + 1) C cells ++ line k) e)
-    ∙ sym (append_assoc (line place) (part_lines n (place + 1) C cells) (line (place + suc n)))
+-- one row's line more
+module _ (word : List ℕ) (numbered : Bool) (first C : ℕ) (cells : List Float) where
+  abbrev line : ℕ → List ℕ
+  line j = row_line word numbered first j C cells
 
-pub parts_more : (n C : ℕ) (cells : List Float) → part_lines (n + 1) 0 C cells ≡ part_lines n 0 C cells ++ line_text (part_name n) (row_at C cells n)
-parts_more n C cells = rw (add-one n) (parts_suc n 0 C cells ∙ ap (λ (k : ℕ). part_lines n 0 C cells ++ line_text (part_name k) (row_at C cells k)) (zero-add n))
+  abbrev lines : ℕ → ℕ → List ℕ
+  lines n j = row_lines word numbered first n j C cells
 
-pub parts_long : (n place C : ℕ) (cells : List Float) → C ≤ most_columns → length (part_lines n place C cells) ≤ part_text * n
-unfolding part_lines
-parts_long zero place C cells h = omega arith
-parts_long (suc n) place C cells h =
-    let row = row_at C cells place in
-    let a = length-append (line_text (part_name place) row) (part_lines n (place + 1) C cells) in
-    let b = part_long place row (omega (arith, length-take C (drop (place * C) cells))) in
-    let c = parts_long n (place + 1) C cells h in
-    omega (arith, a, b, c)
+  lines_suc : (n j : ℕ) → lines (suc n) j ≡ lines n j ++ line (j + n)
+  unfolding row_lines
+  lines_suc zero j = let e : j ≡ j + 0 = omega arith in append-nil _ ∙ ap line e
+  lines_suc (suc n) j =
+      let e : j + 1 + n ≡ j + suc n = omega arith in
+      ap (λ (t : List ℕ). line j ++ t) (lines_suc n (j + 1) ∙ ap (λ (k : ℕ). lines n (j + 1) ++ line k) e) ∙ sym (append_assoc (line j) (lines n (j + 1)) (line (j + suc n)))
+
+  pub lines_more : (n : ℕ) → row_lines word numbered first (n + 1) 0 C cells ≡ row_lines word numbered first n 0 C cells ++ row_line word numbered first n C cells
+  lines_more n = ap (λ (k : ℕ). lines k 0) (add-one n) ∙ lines_suc n 0 ∙ ap (λ (k : ℕ). lines n 0 ++ line k) (zero-add n)
+
+  pub lines_long : (n j : ℕ) → C ≤ most_columns → length (row_lines word numbered first n j C cells) ≤ numbered_text word * n
+  unfolding row_lines
+  lines_long zero j h = omega arith
+  lines_long (suc n) j h =
+      let a = length-append (line j) (lines n (j + 1)) in
+      let b : length (row_at C cells (first + j)) ≤ most_columns = omega (arith, length-take C (drop ((first + j) * C) cells)) in
+      let c = lines_long n (j + 1) h in
+      omega (arith, a, b, row_long, c, mul-suc (numbered_text word) n)
 
 -- ---- a whole text
 

@@ -1,6 +1,6 @@
 -- The text of a sheet (docs/REFERENCE.md, Program): "the Machs, the design's part rows, friction, base, total; a line is a name (for a part its place
 -- too), then per column a space and the bits"; or "only `refused N card K`".
-use Rattle.std.specs.Prelude.{◌≡◌, cond, List, [], ◌∷◌, ◌++◌, ℕ, zero, suc, ◌+◌, ◌*◌, ◌≤◌, length, take, drop, replicate, ltb, Float, Ok, Err}
+use Rattle.std.specs.Prelude.{◌≡◌, Bool, true, cond, List, [], ◌∷◌, ◌++◌, ℕ, zero, suc, ◌+◌, ◌*◌, ◌≤◌, length, take, drop, replicate, ltb, Float, Ok, Err}
 use Rattle.aero_error.specs.Checks.{Check}
 use Rattle.std.specs.Float.Ieee.{to_bits}
 use Rattle.std.specs.Float.{binary64}
@@ -8,18 +8,18 @@ use Rattle.elementary.specs.Constants.{0·0}
 use Rattle.aero_error.specs.Refusals.{number_of}
 use Rattle.sheet_data.specs.declared.Settings.{Settings}
 use Rattle.sheet_data.specs.declared.Sheet.{Sheet}
-use Rattle.sheet_data.specs.Layout.{most_parts, most_columns, most_cells, finishes, friction_row, base_row, total_row}
+use Rattle.sheet_data.specs.Layout.{most_parts, most_columns, most_finishes, most_cells, friction_row, base_row, total_row}
 use Rattle.sheet_data.specs.Rows.{row_at}
 use Rattle.card_run.specs.declared.Run.{Run}
 use Rattle.card_run.specs.Run.{Ran, stream_of}
 use Rattle.sheet_text.specs.Bytes.{digits, space, line_feed, hex_digits, decimal}
 
--- the names, in ASCII: mach, part and a space, friction, base, total, refused and a space, and card between two spaces
+-- the names, in ASCII: mach, part, friction, base, total, refused and a space, and card between two spaces
 abbrev pub mach_name : List ℕ
 mach_name = 109 ∷ 97 ∷ 99 ∷ 104 ∷ []
 
 abbrev pub part_word : List ℕ
-part_word = 112 ∷ 97 ∷ 114 ∷ 116 ∷ 32 ∷ []
+part_word = 112 ∷ 97 ∷ 114 ∷ 116 ∷ []
 
 abbrev pub friction_name : List ℕ
 friction_name = 102 ∷ 114 ∷ 105 ∷ 99 ∷ 116 ∷ 105 ∷ 111 ∷ 110 ∷ []
@@ -51,32 +51,36 @@ unfoldable pub line_text : List ℕ → List Float → List ℕ
 unfolding numbers_text
 line_text name xs = name ++ (numbers_text xs ++ (line_feed ∷ []))
 
--- "for a part its place too"
-abbrev pub part_name : ℕ → List ℕ
-part_name place = part_word ++ decimal place
+-- "for a part its place too", for a friction or total of more than one its finish: a space and the number after the name
+abbrev pub numbered_name : List ℕ → Bool → ℕ → List ℕ
+numbered_name word numbered j = cond numbered (word ++ (space ∷ decimal j)) word
 
--- the lines of n parts from a place on
-unfoldable pub part_lines : ℕ → ℕ → ℕ → List Float → List ℕ
+-- the line of row `first + j`, with the number j where it is numbered
+abbrev pub row_line : List ℕ → Bool → ℕ → ℕ → ℕ → List Float → List ℕ
+row_line word numbered first j C xs = line_text (numbered_name word numbered j) (row_at C xs (first + j))
+
+-- the lines of n rows from that one on
+unfoldable pub row_lines : List ℕ → Bool → ℕ → ℕ → ℕ → ℕ → List Float → List ℕ
 unfolding line_text decimal
-part_lines zero place C xs = []
-part_lines (suc n) place C xs = line_text (part_name place) (row_at C xs place) ++ part_lines n (place + 1) C xs
+row_lines word numbered first zero j C xs = []
+row_lines word numbered first (suc n) j C xs = row_line word numbered first j C xs ++ row_lines word numbered first n (j + 1) C xs
 
--- friction, base and total
-unfoldable pub body_text : ℕ → List Float → List ℕ
-unfolding line_text
-body_text C xs =
-    line_text friction_name (row_at C xs (friction_row 0))
-    ++ (line_text base_name (row_at C xs (base_row finishes)) ++ line_text total_name (row_at C xs (total_row finishes 0)))
+-- F frictions, base and F totals: "Above 1, `sheet` prints `friction j` and `total j`, j from 0"
+unfoldable pub body_text : ℕ → ℕ → List Float → List ℕ
+unfolding row_lines
+body_text F C xs =
+    row_lines friction_name (ltb 1 F) (friction_row 0) F 0 C xs
+    ++ (line_text base_name (row_at C xs (base_row F)) ++ row_lines total_name (ltb 1 F) (total_row F 0) F 0 C xs)
 
 -- the settings' Mach numbers
 abbrev pub machs_of : Settings → List Float
 machs_of s = take s.count s.machs
 
 unfoldable pub sheet_text : Sheet → List Float → List ℕ
-unfolding line_text part_lines body_text
+unfolding line_text row_lines body_text
 sheet_text sheet xs =
     let C = sheet.settings.count in
-    line_text mach_name (machs_of sheet.settings) ++ (part_lines sheet.design.count 0 C xs ++ body_text C xs)
+    line_text mach_name (machs_of sheet.settings) ++ (row_lines part_word true 0 sheet.design.count 0 C xs ++ body_text sheet.settings.finishes C xs)
 
 -- "refused N card K"
 unfoldable pub refused_text : ℕ → ℕ → List ℕ
@@ -101,22 +105,22 @@ answer_text s = ran_text (stream_of s (replicate most_cells 0·0))
 
 -- ---- how long a text can be
 
--- a number, the numbers of a line with its end, a part's line, and the lines of the whole body
+-- a number, the numbers of a line with its end, the line of a numbered row, and the lines of the whole body
 abbrev pub number_text_size : ℕ
 number_text_size = 1 + digits
 
 abbrev pub row_text : ℕ
 row_text = most_columns * number_text_size + 1
 
-abbrev pub part_text : ℕ
-part_text = length part_word + 2 + row_text
+abbrev pub numbered_text : List ℕ → ℕ
+numbered_text word = length word + 3 + row_text
 
 abbrev pub body_text_size : ℕ
-body_text_size = length friction_name + length base_name + length total_name + 3 * row_text
+body_text_size = most_finishes * (numbered_text friction_name + numbered_text total_name) + length base_name + row_text
 
 -- no text has more bytes: the line mach, a line for each part, and those
 abbrev pub most_text : ℕ
-most_text = length mach_name + row_text + most_parts * part_text + body_text_size
+most_text = length mach_name + row_text + most_parts * numbered_text part_word + body_text_size
 
 -- what the contract says of a buffer: one that holds every text has this text at its start, and a shorter one is left as it was
 abbrev pub printed : List ℕ → ℕ → List ℕ

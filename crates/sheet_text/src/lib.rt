@@ -3,74 +3,82 @@
 #![tactic(auto)]
 
 ghost use Rattle.std.specs.Prelude.{◌≡◌, ◌++◌, ◌+◌, ◌*◌, ◌≤◌, ◌<◌, length};
-ghost use Rattle.sheet_data.specs.Layout.{most_parts, most_columns};
+ghost use Rattle.sheet_data.specs.Layout.{most_parts, most_columns, all_rows};
 ghost use Rattle.sheet_data.specs.Contents.{Fits};
 ghost use Rattle.sheet_text.specs.Bytes.{Room, Prints};
-ghost use Rattle.sheet_text.specs.Text.{row_text, part_text, body_text_size, most_text, line_text, part_name, part_lines, body_text, sheet_text, refused_text, run_text, Printed, Answered};
+ghost use Rattle.sheet_text.specs.Text.{numbered_text, body_text_size, most_text, line_text, numbered_name, row_lines, body_text, sheet_text, refused_text, run_text, Printed, Answered};
 
 mod text;
 
 use card_run::{Run, STREAM_BYTES};
 use sheet_data::Sheet;
-use sheet_data::layout::{CELLS, COLUMNS, PARTS, base_row, friction_row, total_row};
+use sheet_data::layout::{CELLS, COLUMNS, FINISHES, FRICTION_ROW, Layout, PARTS};
 use sheet_data::rows::Rows;
 use text::{DIGITS, Text};
 
-// The most bytes of the numbers of a line with its end, of a part's line, and of the lines friction, base and total.
+// The most bytes of the numbers of a line with its end, of what comes between the name of a numbered row and these, and of the lines of the whole body.
 const ROW_TEXT: usize = COLUMNS * (1 + DIGITS) + 1;
 
-const PART_TEXT: usize = 5 + 2 + ROW_TEXT;
+const NUMBERED: usize = 3 + ROW_TEXT;
 
-const BODY_TEXT: usize = 8 + 4 + 5 + 3 * ROW_TEXT;
+const BODY_TEXT: usize = FINISHES * (8 + NUMBERED + 5 + NUMBERED) + 4 + ROW_TEXT;
 
 // No text has more bytes: the line mach, a line for each part, and the lines of the whole body.
-pub const MOST_TEXT: usize = 4 + ROW_TEXT + PARTS * PART_TEXT + BODY_TEXT;
+pub const MOST_TEXT: usize = 4 + ROW_TEXT + PARTS * (4 + NUMBERED) + BODY_TEXT;
 
 impl Text<'_> {
-    // The line of the part at a place.
+    // The line of a row, with its number after the name where it is numbered.
     #[tactic(auto, using(crate::proofs::Puts::decimal_long))]
-    fn part(&mut self, place: usize, row: &[f64])
-        requires { (place < 100) × (length row.now ≤ most_columns) × Room part_text self.old }
-        ensures { Prints (line_text (part_name place) row.now) self.old self.new }
+    fn row(&mut self, name: &[u8], numbered: bool, number: usize, row: &[f64])
+        requires { (number < 100) × (length row.now ≤ most_columns) × Room (numbered_text name.now) self.old }
+        ensures { Prints (line_text (numbered_name name.now numbered number) row.now) self.old self.new }
     {
-        self.bytes(b"part ");
-        self.decimal(place);
+        self.bytes(name);
+        if numbered {
+            self.bytes(b" ");
+            self.decimal(number);
+        }
         self.numbers(row);
     }
 
-    // The lines of the design's parts.
-    fn parts(&mut self, count: usize, rows: Rows)
-        requires { (count ≤ most_parts) × Room (part_text * count) self.old }
-        ensures { Prints (part_lines count 0 rows.entry.columns rows.entry.cells.now) self.old self.new }
+    // The lines of so many rows from a row on, numbered from 0 on.
+    fn rows(&mut self, name: &[u8], numbered: bool, first: usize, count: usize, rows: Rows)
+        requires { (first + count ≤ all_rows rows.layout.finishes) × Room (numbered_text name.now * count) self.old }
+        ensures { Prints (row_lines name.now numbered first count 0 rows.entry.layout.columns rows.entry.cells.now) self.old self.new }
     {
-        for place in 0..count {
-            self.part(place, rows.row(place));
+        for number in 0..count {
+            self.row(name, numbered, number, rows.row(first + number));
         }
     }
 
-    // Friction, base and total.
-    #[tactic(auto, using(crate::proofs::Puts::line_long, sheet_data::specs::Layout::finishes_some))]
+    // Frictions, base and totals; of one finish friction and total have no number.
+    #[tactic(auto, using(crate::proofs::Puts::line_long, crate::proofs::Puts::lines_long))]
     fn body(&mut self, rows: Rows)
         requires { Room body_text_size self.old }
-        ensures { Prints (body_text rows.entry.columns rows.entry.cells.now) self.old self.new }
+        ensures { Prints (body_text rows.entry.layout.finishes rows.entry.layout.columns rows.entry.cells.now) self.old self.new }
     {
-        self.line(b"friction", rows.row(friction_row()));
-        self.line(b"base", rows.row(base_row()));
-        self.line(b"total", rows.row(total_row()));
+        let layout = rows.layout;
+        let finishes = layout.finishes;
+        self.rows(b"friction", 1 < finishes, FRICTION_ROW, finishes, rows);
+        self.line(b"base", rows.row(layout.base_row()));
+        self.rows(b"total", 1 < finishes, layout.total_row(), finishes, rows);
     }
 
     // All the lines of a sheet.
-    #[tactic(auto, using(crate::proofs::Puts::line_long, crate::proofs::Puts::parts_long))]
+    #[tactic(auto, using(crate::proofs::Puts::line_long, crate::proofs::Puts::lines_long))]
     fn sheet(&mut self, sheet: Sheet, cells: &[f64])
         requires { Fits sheet (length cells.now) × Room most_text self.old }
         ensures { Prints (sheet_text sheet cells.now) self.old self.new }
     {
         let settings = sheet.settings;
         let design = sheet.design;
-        let columns = settings.count;
-        let rows = Rows { columns, cells };
-        self.line(b"mach", &settings.machs[..columns]);
-        self.parts(design.count, rows);
+        let layout = Layout {
+            finishes: settings.finishes,
+            columns: settings.count,
+        };
+        let rows = Rows { layout, cells };
+        self.line(b"mach", &settings.machs[..settings.count]);
+        self.rows(b"part", true, 0, design.count, rows);
         self.body(rows);
     }
 

@@ -11,26 +11,27 @@
 //     n ignite                    nozzle diameter
 //     b burnout                   no arguments
 //     w words of the sheet        the first one's place, how many, up to six words
+//     e finishes                  how many, the four roughnesses
 //     k roughness of the parts    flag and bits, for the i and r lines that follow; 0 and 0 before the first one
 //     l cells lent                how many
 //     f all cells                 the first one's bits, and what each further one adds
 //     p one cell                  its place, its bits
+//
+// A `w` line speaks of a sheet of one finish: the words are D, its roughness, B, the number of columns, and from the Machs on those
+// of any sheet. Before the first `e` line there is one finish.
 //
 // The list, `stdin` beside this folder, is made in compare/:
 //     cargo run --release --offline --bin sheet_list > ../crates/sheet_vectors/stdin
 #![tactic(auto)]
 
 use cobalnis::{
-    FIRST_PART, MACHS_AT, NOZZLE_AT, PART_WORDS, PARTS_AT, REYNOLDS_AT, SHEET_WORDS,
-    cobalnis_burnout, cobalnis_ignite, cobalnis_insert, cobalnis_open, cobalnis_remove,
-    cobalnis_replace, cobalnis_set_column,
+    COLUMNS_AT, FINENESS_AT, FINISHES_AT, FIRST_PART, MACHS_AT, NOZZLE_AT, PART_WORDS, PARTS_AT,
+    REYNOLDS_AT, ROUGHNESSES_AT, SHEET_WORDS, cobalnis_burnout, cobalnis_ignite, cobalnis_insert,
+    cobalnis_open, cobalnis_remove, cobalnis_replace, cobalnis_set_column,
 };
 use elementary::{from_bits, to_bits};
 use replay::{Counts, NO_KIND, Replay, is_line, replay_all, tag_of, word_at};
-use sheet_data::layout::{CELLS, COLUMNS};
-
-// How many columns, after three floats and before the Machs.
-const COLUMNS_AT: usize = MACHS_AT - 1;
+use sheet_data::layout::{CELLS, COLUMNS, PARTS};
 
 // ---- the state's number
 
@@ -73,13 +74,52 @@ fn with_parts(h: u64, words: &[u64; SHEET_WORDS]) -> u64 {
         .fold(h, |h, part| with_part(h, part))
 }
 
-// The number of a sheet's words, as far as its counts reach, and of all cells.
+// Where there is one finish, its roughness comes with D and B, and nothing more is said of it here.
+fn with_finishes(h: u64, words: &[u64; SHEET_WORDS]) -> u64 {
+    let finishes = words[FINISHES_AT];
+    if finishes == 1 {
+        return h;
+    }
+    let roughnesses = words[ROUGHNESSES_AT..FINENESS_AT].iter();
+    roughnesses.take(finishes as usize).fold(
+        mixed(h, finishes),
+        |h, roughness| with_float(h, *roughness),
+    )
+}
+
+// Cells of the largest sheet of one finish, and a row more.
+const CELLS_OF_ONE: usize = (PARTS + 4) * COLUMNS;
+
+// The cells that count: with one finish these, with any other number all.
+fn cells_of(words: &[u64; SHEET_WORDS]) -> usize {
+    if words[FINISHES_AT] == 1 {
+        CELLS_OF_ONE
+    } else {
+        ROOM
+    }
+}
+
+// The number of a sheet's words, as far as its counts reach, and of the cells.
 fn number_of(words: &[u64; SHEET_WORDS], cells: &[f64]) -> u64 {
-    let h = with_floats(0xcbf2_9ce4_8422_2325, &words[..COLUMNS_AT]);
+    let h = with_float(0xcbf2_9ce4_8422_2325, words[0]);
+    let h = with_float(h, words[ROUGHNESSES_AT]);
+    let h = with_float(h, words[FINENESS_AT]);
     let h = with_columns(mixed(h, words[COLUMNS_AT]), words);
     let h = with_float(h, words[NOZZLE_AT]);
     let h = with_parts(mixed(h, words[PARTS_AT]), words);
-    cells.iter().fold(h, |h, cell| mixed(h, to_bits(*cell)))
+    let h = with_finishes(h, words);
+    let counted = cells.iter().take(cells_of(words));
+    counted.fold(h, |h, cell| mixed(h, to_bits(*cell)))
+}
+
+// The place of a word in the sheet by the place that a `w` line gives it.
+fn place_of(at: usize) -> usize {
+    match at {
+        0 => 0,
+        1 => ROUGHNESSES_AT,
+        2 => FINENESS_AT,
+        _ => at.saturating_add(COLUMNS_AT - 3),
+    }
 }
 
 // ---- what a line asks for
@@ -109,6 +149,7 @@ const NAMES: [&[u8]; 7] = [
 #[derive(Clone, Copy)]
 enum Change {
     Words,
+    Finishes,
     Roughness,
     Lent,
     Fill,
@@ -132,6 +173,7 @@ impl Asked {
             b'n' => Asked::Call(Call::Ignite),
             b'b' => Asked::Call(Call::Burnout),
             b'w' => Asked::Change(Change::Words),
+            b'e' => Asked::Change(Change::Finishes),
             b'k' => Asked::Change(Change::Roughness),
             b'l' => Asked::Change(Change::Lent),
             b'f' => Asked::Change(Change::Fill),
@@ -178,10 +220,12 @@ struct State {
 }
 
 impl State {
-    // A sheet of zeros and no cell lent.
+    // A sheet of zeros but for one finish, and no cell lent.
     fn blank() -> State {
+        let mut words = [0; SHEET_WORDS];
+        words[FINISHES_AT] = 1;
         State {
-            words: [0; SHEET_WORDS],
+            words,
             cells: [0.0; ROOM],
             lent: 0,
             roughness: Roughness { flag: 0, bits: 0 },
@@ -217,7 +261,17 @@ impl State {
     fn put_words(&mut self, line: &[u8]) {
         let at = word_at(line, 0) as usize;
         let count = word_at(line, 1) as usize;
-        for (word, which) in self.words.iter_mut().skip(at).take(count).zip(2..8) {
+        for (k, which) in (0..count).zip(2..8) {
+            if let Some(word) = self.words.get_mut(place_of(at.saturating_add(k))) {
+                *word = word_at(line, which);
+            }
+        }
+    }
+
+    // How many finishes, and their roughnesses.
+    fn put_finishes(&mut self, line: &[u8]) {
+        let words = self.words[FINISHES_AT..FINENESS_AT].iter_mut();
+        for (word, which) in words.zip(0..8) {
             *word = word_at(line, which);
         }
     }
@@ -237,6 +291,7 @@ impl State {
         let second = word_at(line, 1);
         match change {
             Change::Words => self.put_words(line),
+            Change::Finishes => self.put_finishes(line),
             Change::Roughness => {
                 self.roughness = Roughness {
                     flag: first,

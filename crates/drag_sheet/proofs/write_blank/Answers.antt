@@ -7,7 +7,7 @@ pub write_all-requires : goal.write_all-requires
 write_all-requires c =
     let a = c.args in
     let f = settings_facts a.settings (length a.cells.now) (sym c.check_settings.ensures ∙ c.in_ok-check_settings.was) in
-    rw c.blank.ensures record { columns = f.0; parts = omega arith; room = f.1 }
+    rw c.blank.ensures record { finishes = f.finishes; columns = f.columns; parts = omega arith; room = f.room }
 
 pub returns : goal.returns
 returns c = opened_whole c.args.settings _ _ _ (sym c.check_settings.ensures ∙ c.in_ok-check_settings.was) (rw c.blank.ensures at c.write_all.ensures)

@@ -8,6 +8,7 @@ use borrow.Author.Tests.{lt-ltb, le-ltb}
 use Rattle.elementary.specs.Constants.{0·0}
 use Rattle.sheet_data.specs.Layout.{most_columns}
 use Rattle.sheet_data.specs.Contents.{contents_of, parts_of}
+use Rattle.drag_sheet.proofs.Laying.{placed}
 use Rattle.drag_sheet.proofs.Changed.{parts_long, own_steps, pair_rows}
 use Rattle.drag_sheet.proofs.write_changed.Goals as goal
 use Rattle.drag_sheet.proofs.write_changed.Goals.{After-row_at, Start}
@@ -41,6 +42,6 @@ returns c =
     record {
       verdict = rw (ok, long (goal.at.returns c).Start, le-ltb (n + 1) c.args.sheet.design.count h);
       cells =
-          own_steps (contents_of c.args.sheet) c.args.cells.now n _ _ _ _ c.offset.ensures.place (take_at c.row_at.new.out _ c.args.sheet.settings.count (own_long (goal.at.returns c).After-row_at) ∙ c.row_at.ensures.made ok) c.write_row.ensures c.write_body.ensures
+          own_steps (contents_of c.args.sheet) c.args.cells.now n _ _ _ _ (placed c.layout_of-layout.ensures c.offset.ensures).place (take_at c.row_at.new.out _ c.args.sheet.settings.count (own_long (goal.at.returns c).After-row_at) ∙ c.row_at.ensures.made ok) c.write_row.ensures c.write_body.ensures
           ∙ rw (ok, long (goal.at.returns c).Start, le-ltb (n + 1) c.args.sheet.design.count h);
     }

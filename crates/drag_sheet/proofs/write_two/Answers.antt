@@ -7,6 +7,7 @@ use Rattle.sheet_data.specs.Layout.{most_columns}
 use Rattle.sheet_data.specs.Contents.{contents_of}
 use Rattle.drag_sheet.proofs.Verdicts.{chosen_passed}
 use Rattle.drag_sheet.proofs.Changed.{next_steps}
+use Rattle.drag_sheet.proofs.Laying.{placed}
 use Rattle.drag_sheet.proofs.write_two.Goals as goal
 use Rattle.drag_sheet.proofs.write_two.Goals.{After-row_at}
 
@@ -20,5 +21,5 @@ returns c =
     let ok = sym v ∙ c.in_ok-row_at.was in
     record {
       verdict = sym ok;
-      cells = next_steps (contents_of c.args.sheet) c.args.cells.now c.args.place c.args.own.now _ _ _ _ _ _ c.offset.ensures.place c.offset-2.ensures.place (take_at c.row_at.new.out (drop c.args.sheet.settings.count (replicate most_columns 0·0)) c.args.sheet.settings.count (next_long (goal.at.returns c).After-row_at) ∙ c.row_at.ensures.made ok) c.write_row.ensures c.write_row-2.ensures c.write_body.ensures ∙ chosen_passed c.args.cells.now _ ok;
+      cells = next_steps (contents_of c.args.sheet) c.args.cells.now c.args.place c.args.own.now _ _ _ _ _ _ (placed c.layout_of-layout.ensures c.offset.ensures).place (placed c.layout_of-layout.ensures c.offset-2.ensures).place (take_at c.row_at.new.out (drop c.args.sheet.settings.count (replicate most_columns 0·0)) c.args.sheet.settings.count (next_long (goal.at.returns c).After-row_at) ∙ c.row_at.ensures.made ok) c.write_row.ensures c.write_row-2.ensures c.write_body.ensures ∙ chosen_passed c.args.cells.now _ ok;
     }

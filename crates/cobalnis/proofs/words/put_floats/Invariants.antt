@@ -5,4 +5,4 @@ use Rattle.cobalnis.specs.Words.{spread, float_words}
 use Rattle.cobalnis.proofs.words.put_floats.Given as goal
 
 abbrev pub invariant-loop-i : goal.invariant-loop-i
-invariant-loop-i l = l.words ≡ sets l.initial.words l.start (spread float_words (take l.i l.float-items))
+invariant-loop-i g l = l.words ≡ sets l.initial.words l.start (spread float_words (take l.i l.float-items))

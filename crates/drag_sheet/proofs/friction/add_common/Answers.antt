@@ -8,8 +8,8 @@ use Rattle.elementary.specs.Constants.{0·0}
 use Rattle.sheet_data.specs.declared.Part.{Part}
 use Rattle.sheet_data.specs.Contents.{no_part, part_at}
 use Rattle.sheet_data.specs.Tables.{tab_same, tab_constant}
+use Rattle.sheet_data.proofs.Chunks.{in_chunk}
 use Rattle.drag_sheet.proofs.Sums.{sum_none, terms_more, four_terms_more}
-use Rattle.drag_sheet.proofs.Fours.{four_at}
 use Rattle.drag_sheet.proofs.friction.add_common.Goals as goal
 use Rattle.drag_sheet.proofs.friction.add_common.Goals.{At-loop-four, At-loop-part}
 
@@ -25,7 +25,7 @@ loop-four-preserved c =
     let f : ℕ → ℕ → Float = λ k i. get_or xs k nan ⊗ (part_at ps i).wetted_ratio in
     let x : ℕ → ℕ → Float = λ j k. get_or xs k nan ⊗ (part_at (get_or c.as_chunks.result.0.now q []) j).wetted_ratio in
     let next : 4 * (q + 1) ≡ n + 4 = omega arith in
-    let same : (j i k : ℕ) → j < 4 → i ≡ n + j → x j k ≡ f k i = λ j i k h e. rw c.as_chunks.ensures.front (ap (λ (p : Part). get_or xs k nan ⊗ p.wetted_ratio) (four_at ps (length ps / 4) q j i (omega arith) h e (omega arith))) in
+    let same : (j i k : ℕ) → j < 4 → i ≡ n + j → x j k ≡ f k i = λ j i k h e. rw (c.as_chunks.ensures.front, e) (ap (λ (p : Part). get_or xs k nan ⊗ p.wetted_ratio) (in_chunk 4 (length ps / 4) q j ps no_part (omega arith) h)) in
     rw next (four_terms_more (length xs) n f c.loop-four.sum _ (x 0) (x 1) (x 2) (x 3) c.loop-four.invariant c.add_four.ensures
     (λ k h. (same 0 n k (omega arith) (omega arith), same 1 (n + 1) k (omega arith) (omega arith), same 2 (n + 2) k (omega arith) (omega arith), same 3 (n + 3) k (omega arith) (omega arith))))
 

@@ -1,5 +1,6 @@
 -- `part_row` meets its contract: the row of what was prepared, over the columns that count.
 use mathlib.Core.Path.{◌≡◌}
+use Rattle.std.proofs.Common.{rules}
 use native.Mathlib.Omega.{arith}
 use lib.ListN.{length}
 use Rattle.sheet_data.specs.Layout.{most_columns}
@@ -9,7 +10,7 @@ use Rattle.drag_sheet.proofs.part.part_row.Goals.{Start}
 
 -- the settings' array holds its Mach numbers
 long : (s : Start) → length s.args.settings.machs ≡ most_columns
-long s = s.well_formed.0.1.1.1.1.1.1.0.1.0.1
+long s = search rules
 
 pub returns : goal.returns
 returns c = rw (← c.prepare.ensures, c.in_ok-row.was) (taken_row _ c.args.settings (omega (arith, long (goal.at.returns c).Start)) c.fill_row.ensures)

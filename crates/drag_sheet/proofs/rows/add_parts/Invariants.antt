@@ -6,4 +6,4 @@ use Rattle.drag_sheet.specs.Writing.{there}
 use Rattle.drag_sheet.proofs.rows.add_parts.Given as goal
 
 abbrev pub invariant-loop-place : goal.invariant-loop-place
-invariant-loop-place l = l.sum ≡ tab l.rows.columns (λ k. sum_to l.place (λ i. there l.rows.columns l.rows.cells.now i k))
+invariant-loop-place l = l.sum ≡ tab l.rows.layout.columns (λ k. sum_to l.place (λ i. there l.rows.layout.columns l.rows.cells.now i k))

@@ -15,7 +15,7 @@ use Rattle.drag_sheet.specs.Build.{trial, row_of}
 use Rattle.drag_sheet.specs.Calls.{with_nozzle}
 use Rattle.drag_sheet.proofs.Verdicts.{filled_refused, filled_passed}
 use Rattle.drag_sheet.proofs.RowKinds.{same_trial, above_base}
-use Rattle.drag_sheet.proofs.Laying.{none_laid, prepared_next, laid_next}
+use Rattle.drag_sheet.proofs.Laying.{placed, none_laid, prepared_next, laid_next}
 use Rattle.drag_sheet.proofs.rows.part_rows.Invariants.{contents}
 use Rattle.drag_sheet.proofs.rows.part_rows.Goals as goal
 use Rattle.drag_sheet.proofs.rows.part_rows.Goals.{After-offset-at, Start}
@@ -25,7 +25,7 @@ long s = length-take-le s.args.sheet.design.count s.args.sheet.design.parts (ome
 
 -- the row lies within the cells
 inside : (c : After-offset-at) → c.offset-at.result + c.args.sheet.settings.count ≤ length c.loop-place.cells
-inside c = omega (arith, c.offset-at.ensures.inside, c.requires.room, c.loop-place.invariant.rows.long)
+inside c = omega (arith, (placed c.layout_of-layout.ensures c.offset-at.ensures).inside, c.requires.room, c.loop-place.invariant.rows.long)
 
 pub returns-in_err-part_row : goal.returns-in_err-part_row
 unfolding trial
@@ -41,11 +41,12 @@ loop-place-preserved c =
     let at = c.loop-place in
     let n = c.args.sheet.settings.count in
     let o = c.offset-at in
+    let p = placed c.layout_of-layout.ensures o.ensures in
     let f = c.part_row in
     let h = c.loop-place-test.true in
     let all = contents c.args.sheet.settings c.args.sheet.design.count c.args.sheet.design.parts in
     let w = f.auto.out ∙ middle_long o.result n at.cells (inside (goal.at.loop-place-preserved c).After-offset-at) in
-    laid_next all at.invariant o.result f.new.out o.ensures.place (inside (goal.at.loop-place-preserved c).After-offset-at) w refl (omega (arith, c.requires.parts)) (omega (arith, long (goal.at.loop-place-preserved c).Start)) f.ensures c.in_ok-part_row.was (omega (arith, long (goal.at.loop-place-preserved c).Start))
+    laid_next all at.invariant o.result f.new.out p.place (inside (goal.at.loop-place-preserved c).After-offset-at) w refl (omega (arith, c.requires.parts)) (omega (arith, long (goal.at.loop-place-preserved c).Start)) f.ensures c.in_ok-part_row.was (omega (arith, long (goal.at.loop-place-preserved c).Start))
 
 pub returns : goal.returns
 unfolding trial

@@ -1,6 +1,6 @@
 -- `write_body` meets its contract: the friction rows, then the base row and the total rows.
 use mathlib.Core.Path.{◌∙◌}
-use Rattle.sheet_data.specs.Layout.{finishes, friction_row}
+use Rattle.sheet_data.specs.Layout.{friction_row}
 use Rattle.sheet_data.specs.Contents.{contents_of}
 use Rattle.sheet_data.specs.Rows.{from}
 use Rattle.sheet_data.specs.RowLaws.{rows_append}
@@ -12,4 +12,4 @@ pub returns : goal.returns
 unfolding body_rows
 returns c =
     c.write_nozzle_rows.ensures
-    ∙ rw (c.write_frictions.ensures, rows_append c.args.sheet.settings.count (row_of (contents_of c.args.sheet)) nozzle_rows (from (friction_row 0) finishes) c.args.cells.now)
+    ∙ rw (c.write_frictions.ensures, rows_append c.args.sheet.settings.count (row_of (contents_of c.args.sheet)) (nozzle_rows c.args.sheet.settings.finishes) (from (friction_row 0) c.args.sheet.settings.finishes) c.args.cells.now)

@@ -8,7 +8,7 @@ pub loop-row-preserved : goal.loop-row-preserved
 loop-row-preserved c =
     let o = c.offset-at in
     let at = c.loop-row in
-    put_next c.args.column c.args.count c.args.values.now c.args.cells.now at.cells at.row o.result at.invariant o.ensures.place c.requires.0 c.requires.2 (omega (arith, c.loop-row-test.true))
+    put_next c.args.column c.args.layout.finishes c.args.layout.columns c.args.values.now c.args.cells.now at.cells at.row o.result at.invariant o.ensures.place c.requires.0 c.requires.1 (omega (arith, c.loop-row-test.true))
 
 pub loop-row-init : goal.loop-row-init
 loop-row-init c = rows_none _ _ _ _ _

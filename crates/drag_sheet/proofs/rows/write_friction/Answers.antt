@@ -1,12 +1,10 @@
 -- `write_friction` meets its contract: the row added up, put into its place.
 use mathlib.Core.Path.{◌≡◌, ap, ◌∙◌}
-use Prim.Native.Nat.{◌+◌}
-use native.Mathlib.Omega.{arith}
 use lib.ListN.{length}
 use lib.Seq.{take_at}
-use Rattle.sheet_data.specs.Layout.{friction_row}
 use Rattle.sheet_data.specs.Contents.{contents_of}
 use Rattle.sheet_data.specs.Tables.{tab_long}
+use Rattle.drag_sheet.proofs.Laying.{placed}
 use Rattle.drag_sheet.proofs.MadeRows.{friction_made}
 use Rattle.drag_sheet.proofs.rows.write_friction.Goals as goal
 use Rattle.drag_sheet.proofs.rows.write_friction.Goals.{After-sum_parts}
@@ -17,6 +15,5 @@ sum_long c = ap length c.sum_parts.ensures ∙ tab_long _ _
 
 pub returns : goal.returns
 returns c =
-    let row : c.friction_row.result + c.args.finish ≡ friction_row c.args.finish = omega (arith, c.friction_row.ensures) in
     c.write_row.ensures
-    ∙ rw (take_at c.sum_parts.new.sum _ c.args.sheet.settings.count (sum_long (goal.at.returns c).After-sum_parts), c.sum_parts.ensures, c.offset-at.ensures.place, row, friction_made (contents_of c.args.sheet) c.args.finish c.requires.1)
+    ∙ rw (take_at c.sum_parts.new.sum _ c.args.sheet.settings.count (sum_long (goal.at.returns c).After-sum_parts), c.sum_parts.ensures, (placed c.layout_of.ensures c.offset-at.ensures).place, friction_made (contents_of c.args.sheet) c.args.finish c.requires.1)

@@ -1,8 +1,8 @@
 -- `write_frictions` meets its contract.
 use mathlib.Core.Path.{◌≡◌, ◌∙◌}
-use Prim.Native.Nat.{◌+◌, ◌<◌}
+use Prim.Native.Nat.{◌+◌}
 use native.Mathlib.Omega.{arith}
-use Rattle.sheet_data.specs.Layout.{finishes, friction_row}
+use Rattle.sheet_data.specs.Layout.{friction_row}
 use Rattle.sheet_data.specs.RowLaws.{rows_none, rows_next}
 use Rattle.drag_sheet.proofs.rows.write_frictions.Goals as goal
 
@@ -10,9 +10,8 @@ pub loop-finish-preserved : goal.loop-finish-preserved
 loop-finish-preserved c =
     let at = c.loop-finish in
     let w = c.write_friction in
-    let h : at.finish < finishes = omega (arith, c.loop-finish-test.true, c.finishes-finish-end.ensures.0) in
     let here : friction_row 0 + at.finish ≡ friction_row at.finish = omega arith in
-    rows_next at.invariant _ h w.auto.cells (w.ensures ∙ rw here)
+    rows_next at.invariant _ c.loop-finish-test.true w.auto.cells (w.ensures ∙ rw here)
 
 pub loop-finish-init : goal.loop-finish-init
 loop-finish-init c = rows_none _ _ _ _ _

@@ -3,4 +3,4 @@ use Rattle.drag_sheet.proofs.MadeRows.{TotalsDone}
 use Rattle.drag_sheet.proofs.rows.write_totals.Given as goal
 
 abbrev pub invariant-loop-finish : goal.invariant-loop-finish
-invariant-loop-finish l = TotalsDone l.count l.initial.cells l.cells l.finish
+invariant-loop-finish l = TotalsDone l.layout.finishes l.layout.columns l.initial.cells l.cells l.finish

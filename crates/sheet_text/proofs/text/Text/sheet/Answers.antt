@@ -5,4 +5,4 @@ use Rattle.sheet_text.proofs.text.Text.sheet.Goals as goal
 
 pub returns : goal.returns
 unfolding sheet_text
-returns c = prints_then c.line.ensures (prints_then c.parts.ensures c.body.ensures)
+returns c = prints_then c.line.ensures (prints_then c.rows.ensures c.body.ensures)
