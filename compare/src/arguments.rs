@@ -3,7 +3,7 @@
 
 use crate::cards::shape_of;
 use crate::inputs::{Random, NANS};
-use crate::model::{Column, Part};
+use crate::model::{Column, Part, FINISHES};
 
 pub struct Arguments {
     pub random: Random,
@@ -130,6 +130,27 @@ impl Arguments {
         let some = self.random.between(0.0, 1.5);
         self.random
             .pick(&[0.0, some, some, 0.3, std::f64::consts::FRAC_PI_2])
+    }
+
+    /// A number of finishes; none, or more than there may be, one time in `bad`.
+    pub fn a_finish_count(&mut self, bad: u64) -> usize {
+        if self.one_in(bad) {
+            return [0, 5, 255, 256, (1 << 32) + 1, usize::MAX][self.below(6)];
+        }
+        1 + self.below(FINISHES)
+    }
+
+    /// A roughness for each finish that there may be, outside its interval one time in `bad`.
+    pub fn roughnesses(&mut self, bad: u64) -> [f64; FINISHES] {
+        std::array::from_fn(|_| {
+            if self.one_in(bad) {
+                self.outside(0.0, 1.0)
+            } else if self.one_in(3) {
+                self.house(0.0, 1.0, 1e-4, u64::MAX)
+            } else {
+                self.random.scaled(1e-6, 1e-2)
+            }
+        })
     }
 
     /// A roughness of a part's own, outside its interval one time in `bad`, or none three times in

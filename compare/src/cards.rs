@@ -9,7 +9,7 @@
 use crate::answer_bits;
 pub use crate::builds::fixed_steps::shape_of;
 use crate::model::{
-    insert, open, Column, Part, Settings, Sheet, BASE, COLUMNS, FRICTION, ROWS, TOTAL,
+    base_row, insert, open, total_row, Column, Part, Settings, Sheet, COLUMNS, FINISHES, FRICTION,
 };
 use crate::original_fixed::NoseShape;
 
@@ -21,6 +21,8 @@ const RESERVED: u8 = 5;
 const FIELD: u8 = 6;
 /// "more than 32 columns".
 const TOO_MANY: u8 = 7;
+/// "F of 0 or above 4".
+const FINISH_COUNT: u8 = 19;
 
 /// A refused stream: the refusal's number and the card's, from 0.
 #[derive(Debug, Clone, Copy, PartialEq, Eq)]
@@ -63,41 +65,41 @@ fn stands(map: u8, bit: u32) -> bool {
     map >> bit & 1 == 1
 }
 
-/// "Settings: 0 D, 1 roughness, 2 B, 3 a count byte and that many pairs M, R."
+/// "Settings: 0 D, 1 roughness, 2 B, 3 a count byte and that many pairs M, R", and "bit 4 brings a
+/// count byte and that many floats".
 fn settings_card(bytes: &mut Bytes) -> Result<Settings, u8> {
     let map = bytes.byte()?;
-    if map >= 1 << 4 {
+    if map >= 1 << 5 {
         return Err(RESERVED);
     }
-    // "D and B must stand."
-    if !stands(map, 0) || !stands(map, 2) {
+    // "D and B must stand"; "with bit 1 standing too it is refusal 6, tested with the missing bits".
+    if !stands(map, 0) || !stands(map, 2) || stands(map, 1) && stands(map, 4) {
         return Err(FIELD);
     }
-    let reference_diameter = bytes.float()?;
-    let roughness = bytes.float_if(stands(map, 1))?;
-    let body_fineness = bytes.float()?;
-    let mut count = 0;
-    let mut columns = [Column {
-        mach: 0.0,
-        reynolds: 0.0,
-    }; COLUMNS];
+    let mut settings = NO_CARD;
+    settings.reference_diameter = bytes.float()?;
+    settings.roughnesses[0] = bytes.float_if(stands(map, 1))?;
+    settings.body_fineness = bytes.float()?;
     if stands(map, 3) {
-        count = usize::from(bytes.byte()?);
-        if count > COLUMNS {
+        settings.count = usize::from(bytes.byte()?);
+        if settings.count > COLUMNS {
             return Err(TOO_MANY);
         }
-        for column in &mut columns[..count] {
+        for column in &mut settings.columns[..settings.count] {
             column.mach = bytes.float()?;
             column.reynolds = bytes.float()?;
         }
     }
-    Ok(Settings {
-        reference_diameter,
-        roughness,
-        body_fineness,
-        count,
-        columns,
-    })
+    if stands(map, 4) {
+        settings.finishes = usize::from(bytes.byte()?);
+        if settings.finishes == 0 || settings.finishes > FINISHES {
+            return Err(FINISH_COUNT);
+        }
+        for roughness in &mut settings.roughnesses[..settings.finishes] {
+            *roughness = bytes.float()?;
+        }
+    }
+    Ok(settings)
 }
 
 /// "Part: 0 shape byte, 1 shape parameter, 2 L, 3 d, 4 joint angle, 5 w", 6 its own roughness, and
@@ -168,7 +170,8 @@ pub fn read_part(bytes: &[u8], at: usize) -> Result<(Part, usize), u8> {
 /// What stands for the settings card of a stream without any bytes.
 const NO_CARD: Settings = Settings {
     reference_diameter: 1.0,
-    roughness: 0.0,
+    finishes: 1,
+    roughnesses: [0.0; FINISHES],
     body_fineness: 1.0,
     count: 0,
     columns: [Column {
@@ -187,7 +190,7 @@ pub fn stack(stream: &[u8]) -> Result<(Sheet, Vec<f64>), Refused> {
     } else {
         settings_card(&mut bytes).map_err(|number| Refused { number, card })?
     };
-    let mut cells = vec![0.0; ROWS * settings.count];
+    let mut cells = vec![0.0; settings.cells()];
     let (mut answer, mut sheet) = open(&settings, &mut cells);
     while answer.refusal == 0 && !bytes.0.is_empty() {
         card += 1;
@@ -211,18 +214,33 @@ fn line(name: &str, row: &[f64]) -> String {
     text + "\n"
 }
 
-/// "The Machs, the design's part rows, friction, base, total."
+/// "The Machs, the design's part rows, friction, base, total"; with several finishes "`friction j`
+/// and `total j`, j from 0".
 pub fn lines(sheet: &Sheet, cells: &[f64]) -> String {
-    let count = sheet.settings.count;
+    let Settings {
+        finishes, count, ..
+    } = sheet.settings;
+    let of_finish = |name: &str, finish: usize| match finishes {
+        1 => name.to_string(),
+        _ => format!("{name} {finish}"),
+    };
     let row = |number: usize| &cells[number * count..(number + 1) * count];
     let machs: Vec<f64> = sheet.settings.columns().iter().map(|c| c.mach).collect();
     let mut text = line("mach", &machs);
     for place in 0..sheet.design.count {
         text += &line(&format!("part {place}"), row(place));
     }
-    text += &line("friction", row(FRICTION));
-    text += &line("base", row(BASE));
-    text + &line("total", row(TOTAL))
+    for finish in 0..finishes {
+        text += &line(&of_finish("friction", finish), row(FRICTION + finish));
+    }
+    text += &line("base", row(base_row(finishes)));
+    for finish in 0..finishes {
+        text += &line(
+            &of_finish("total", finish),
+            row(total_row(finishes) + finish),
+        );
+    }
+    text
 }
 
 /// What `sheet` prints for a stream, and the number of the refusal (0 accepted).

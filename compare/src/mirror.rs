@@ -8,14 +8,17 @@
 use std::num::FpCategory;
 
 use cobalnis::words::{
-    PartWords, SheetWords, FIRST_PART, MACHS_AT, NOZZLE_AT, PARTS_AT, PART_WORDS, REYNOLDS_AT,
+    PartWords, SheetWords, COLUMNS_AT, FINENESS_AT, FINISHES_AT, FIRST_PART, MACHS_AT, NOZZLE_AT,
+    PARTS_AT, PART_WORDS, REYNOLDS_AT, ROUGHNESSES_AT,
 };
 use cobalnis::Formula;
 
 use crate::answer_bits;
 use crate::builds::{fixed_steps, STEP};
 use crate::cards::{self, of_shape, shape_of};
-use crate::model::{self, Column, Design, Part, Settings, Sheet, COLUMNS, NO_PART, PLACES};
+use crate::model::{
+    self, Column, Design, Part, Settings, Sheet, COLUMNS, FINISHES, NO_PART, PLACES,
+};
 use crate::original_fixed::{
     check_dimension as check, check_mach_any, takes_cone_formula as takes_cone, StoneyNose,
 };
@@ -190,16 +193,22 @@ pub fn part_words(part: &Part, bits: impl Fn(f64) -> u64) -> PartWords {
 }
 
 fn settings_of(words: &SheetWords) -> Settings {
+    let float = |at: usize| f64::from_bits(words[at]);
     let mut columns = [NO_COLUMN; COLUMNS];
     for (at, column) in columns.iter_mut().enumerate() {
-        column.mach = f64::from_bits(words[MACHS_AT + at]);
-        column.reynolds = f64::from_bits(words[REYNOLDS_AT + at]);
+        column.mach = float(MACHS_AT + at);
+        column.reynolds = float(REYNOLDS_AT + at);
+    }
+    let mut roughnesses = [0.0; FINISHES];
+    for (at, roughness) in roughnesses.iter_mut().enumerate() {
+        *roughness = float(ROUGHNESSES_AT + at);
     }
     Settings {
-        reference_diameter: f64::from_bits(words[0]),
-        roughness: f64::from_bits(words[1]),
-        body_fineness: f64::from_bits(words[2]),
-        count: words[3] as usize,
+        reference_diameter: float(0),
+        finishes: words[FINISHES_AT] as usize,
+        roughnesses,
+        body_fineness: float(FINENESS_AT),
+        count: words[COLUMNS_AT] as usize,
         columns,
     }
 }
@@ -211,9 +220,12 @@ const NO_COLUMN: Column = Column {
 
 fn put_settings(settings: &Settings, words: &mut SheetWords) {
     words[0] = answer_bits(settings.reference_diameter);
-    words[1] = answer_bits(settings.roughness);
-    words[2] = answer_bits(settings.body_fineness);
-    words[3] = settings.count as u64;
+    words[FINISHES_AT] = settings.finishes as u64;
+    for (at, &roughness) in settings.roughnesses.iter().enumerate() {
+        words[ROUGHNESSES_AT + at] = answer_bits(roughness);
+    }
+    words[FINENESS_AT] = answer_bits(settings.body_fineness);
+    words[COLUMNS_AT] = settings.count as u64;
     for (at, column) in settings.columns.iter().enumerate() {
         words[MACHS_AT + at] = answer_bits(column.mach);
         words[REYNOLDS_AT + at] = answer_bits(column.reynolds);

@@ -17,11 +17,21 @@ use rows::{write, write_all, write_base};
 /// "C columns (0 to 32)", "0 to 16 parts".
 pub const COLUMNS: usize = 32;
 pub const PLACES: usize = 16;
-/// "16 part rows, friction, base, total".
+/// "F = 1 to 4 settings' roughnesses".
+pub const FINISHES: usize = 4;
+
+/// "All friction rows before base and all totals after it": the first friction row, and by the number
+/// of finishes the base row, the first total row, and how many rows there are.
 pub const FRICTION: usize = PLACES;
-pub const BASE: usize = PLACES + 1;
-pub const TOTAL: usize = PLACES + 2;
-pub const ROWS: usize = PLACES + 3;
+pub const fn base_row(finishes: usize) -> usize {
+    PLACES + finishes
+}
+pub const fn total_row(finishes: usize) -> usize {
+    base_row(finishes) + 1
+}
+pub const fn rows(finishes: usize) -> usize {
+    PLACES + 1 + 2 * finishes
+}
 
 #[derive(Debug, Clone, Copy)]
 pub struct Column {
@@ -32,7 +42,8 @@ pub struct Column {
 #[derive(Debug, Clone, Copy)]
 pub struct Settings {
     pub reference_diameter: f64,
-    pub roughness: f64,
+    pub finishes: usize,
+    pub roughnesses: [f64; FINISHES],
     pub body_fineness: f64,
     pub count: usize,
     pub columns: [Column; COLUMNS],
@@ -45,7 +56,7 @@ pub struct Part {
     pub aft_diameter: f64,
     pub joint_angle: f64,
     pub wetted_ratio: f64,
-    /// Its own; none: the settings' roughness.
+    /// Its own in every finish; none: the settings' roughness.
     pub roughness: Option<f64>,
 }
 
@@ -85,6 +96,11 @@ impl Settings {
     pub fn columns(&self) -> &[Column] {
         &self.columns[..self.count]
     }
+
+    /// "(17 + 2 × F) × C" cells; F and C are tested.
+    pub fn cells(&self) -> usize {
+        rows(self.finishes) * self.count
+    }
 }
 
 impl Design {
@@ -119,18 +135,24 @@ fn test_column(column: Column) -> Result<(), Refusal> {
     check_dimension("Reynolds number", column.reynolds, true).map_err(of_error)
 }
 
-/// "Open: 7, 11 for D, then roughness, 1 for B, 1 for each column (M, R), 10."
+/// "Open: 7, 11 for D, then roughness, 1 for B, 1 for each column (M, R), 10", with 19 "after D and
+/// before 11 for any roughness".
 fn test_settings(settings: &Settings, cell_count: usize) -> Result<(), Refusal> {
     if settings.count > COLUMNS {
         return Err(Answer::refused(7));
     }
     house(0.001, settings.reference_diameter, 100.0)?;
-    house(0.0, settings.roughness, 1.0)?;
+    if settings.finishes == 0 || settings.finishes > FINISHES {
+        return Err(Answer::refused(19));
+    }
+    for &roughness in &settings.roughnesses[..settings.finishes] {
+        house(0.0, roughness, 1.0)?;
+    }
     body_friction_form_factor(settings.body_fineness).map_err(of_error)?;
     for &column in settings.columns() {
         test_column(column)?;
     }
-    if cell_count < ROWS * settings.count {
+    if cell_count < settings.cells() {
         return Err(Answer::refused(10));
     }
     Ok(())
@@ -188,7 +210,7 @@ fn handed_back(answer: Answer, given: &Sheet, after: Sheet) -> (Answer, Sheet) {
     (answer, if answer.refusal == 0 { after } else { *given })
 }
 
-/// Replace: "only the rows named": its own, the next part's, friction, base and total.
+/// Replace: "only the rows named": its own, the next part's, each friction, base and each total.
 pub fn replace(sheet: &Sheet, place: usize, part: &Part, cells: &mut [f64]) -> (Answer, Sheet) {
     let test = || {
         test_sheet(sheet, cells.len())?;
@@ -274,7 +296,7 @@ pub fn set_column(sheet: &Sheet, column: usize, new: Column, cells: &mut [f64]) 
     handed_back(answer, sheet, after)
 }
 
-/// Ignite: "gives n", its own test last; base and total are written.
+/// Ignite: "gives n", its own test last; base and totals are written.
 pub fn ignite(sheet: &Sheet, nozzle_diameter: f64, cells: &mut [f64]) -> (Answer, Sheet) {
     let test = || {
         test_sheet(sheet, cells.len())?;
@@ -291,14 +313,14 @@ pub fn ignite(sheet: &Sheet, nozzle_diameter: f64, cells: &mut [f64]) -> (Answer
     (Answer::accepted(0), after)
 }
 
-/// Burnout: "puts it back to 0"; base and total are written.
+/// Burnout: "puts it back to 0"; base and totals are written.
 pub fn burnout(sheet: &Sheet, cells: &mut [f64]) -> (Answer, Sheet) {
     ignite(sheet, 0.0, cells)
 }
 
 /// A build from nothing: the rows of a sheet into cells of +0, or the refusal of the lowest place.
 pub fn build(sheet: &Sheet) -> Result<Vec<f64>, Answer> {
-    let mut cells = vec![0.0; ROWS * sheet.settings.count];
+    let mut cells = vec![0.0; sheet.settings.cells()];
     let answer = write_all(sheet, &mut cells);
     if answer.refusal == 0 {
         Ok(cells)

@@ -2,6 +2,7 @@
 //! well-formed stacks of cards with most numbers in range, and one third are such stacks damaged.
 
 use crate::inputs::{around, specials, Random};
+use crate::model::FINISHES;
 
 /// Streams of cards out of one generator.
 pub struct Streams {
@@ -89,10 +90,18 @@ impl Streams {
         (stream, ends)
     }
 
+    /// A settings card, with a roughness by bit 1 or finishes by bit 4 or neither, seldom both.
     fn settings(&mut self, stream: &mut Vec<u8>) {
-        let rough = self.once_in(2);
+        let (rough, finishes) = match self.below(60) {
+            0 => (true, true),
+            1..=14 => (false, false),
+            15..=29 => (true, false),
+            _ => (false, true),
+        };
         let columns = !self.once_in(10);
-        stream.push(0x05 | u8::from(rough) << 1 | u8::from(columns) << 3);
+        let bits = [(1, rough), (3, columns), (4, finishes)];
+        let map = bits.map(|(bit, stands)| u8::from(stands) << bit);
+        stream.push(map.iter().fold(0x05, |all, bit| all | bit));
         let diameter = match self.below(4) {
             0 => 1.0,
             1 => self.random.scaled(0.001, 100.0),
@@ -120,6 +129,21 @@ impl Streams {
             for _ in 0..count {
                 self.column(stream);
             }
+        }
+        if finishes {
+            self.finishes(stream);
+        }
+    }
+
+    /// A count byte of finishes, seldom one of none or of too many, and as many roughnesses.
+    fn finishes(&mut self, stream: &mut Vec<u8>) {
+        let count = match self.below(40) {
+            0 => [0, 5, 255][self.below(3)],
+            _ => 1 + self.below(FINISHES),
+        };
+        stream.push(count as u8);
+        for _ in 0..count.min(FINISHES + 1) {
+            self.roughness(stream, 100);
         }
     }
 
@@ -276,7 +300,7 @@ impl Streams {
 
     fn damage(&mut self, stream: &mut Vec<u8>, ends: &[usize]) {
         let place = self.below(stream.len() + 1);
-        match self.below(9) {
+        match self.below(10) {
             // A byte changed, or one bit of it.
             0 if place < stream.len() => stream[place] = self.random.bits() as u8,
             1 if place < stream.len() => stream[place] ^= 1 << self.below(8),
@@ -293,6 +317,8 @@ impl Streams {
             }
             // Cut.
             3 => stream.truncate(place),
+            // Cut near the end of the settings card, where the finishes are.
+            9 => stream.truncate(ends[0].saturating_sub(self.below(35))),
             // Bytes taken out.
             4 => {
                 let end = (place + 1 + self.below(12)).min(stream.len());

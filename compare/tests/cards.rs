@@ -57,7 +57,10 @@ fn no_bytes() {
     let (sheet, cells) = stack(&[]).expect("accepted");
     let settings = &sheet.settings;
     assert_eq!(settings.reference_diameter, 1.0);
-    assert_eq!(settings.roughness.to_bits(), 0);
+    assert_eq!(
+        (settings.finishes, settings.roughnesses[0].to_bits()),
+        (1, 0)
+    );
     assert_eq!(settings.body_fineness, 1.0);
     assert_eq!((settings.count, sheet.design.count, cells.len()), (0, 0, 0));
     assert_eq!(read_settings(&[], 0).err(), Some(4));
@@ -69,8 +72,8 @@ fn no_bytes() {
 fn one_byte() {
     for map in 0..=255u8 {
         let number = match map {
-            0x10.. => 5,
-            0x05 | 0x07 | 0x0d | 0x0f => 4,
+            0x20.. => 5,
+            0x05 | 0x07 | 0x0d | 0x0f | 0x15 | 0x1d => 4,
             _ => 6,
         };
         assert_eq!(printed(&[map]), (refused(number, 0), number), "{map:02x}");
@@ -98,7 +101,7 @@ fn bytes_that_end() {
 /// 5: a reserved bit, before anything else; a shape byte above 5, before its parameter.
 #[test]
 fn reserved() {
-    for map in ["10", "20", "40", "80", "1d", "ff"] {
+    for map in ["20", "40", "80", "3d", "37", "ff"] {
         assert_eq!(text(map), refused(5, 0), "{map}");
     }
     for map in ["80", "82", "c0", "ff"] {
@@ -112,10 +115,12 @@ fn reserved() {
     assert_eq!(text(&format!("{OPEN}01")), refused(4, 1));
 }
 
-/// 6: D or B missing, right after the map; the parameter missing or barred, once the shape is read.
+/// 6: D or B missing, or bits 1 and 4 together, right after the map; the parameter missing or barred, once the shape is read.
 #[test]
 fn missing_and_barred() {
-    for map in ["00", "01", "02", "04", "08", "0b", "0e"] {
+    for map in [
+        "00", "01", "02", "04", "08", "0b", "0e", "10", "12", "17", "1f",
+    ] {
         assert_eq!(text(map), refused(6, 0), "{map}");
     }
     for card in [
@@ -154,6 +159,88 @@ fn too_many_columns() {
         text(&format!("0d one one 21 {pairs} zero zero")),
         refused(7, 0)
     );
+}
+
+/// Bit 4: a count byte and that many roughnesses, after the columns; those past them are +0.
+#[test]
+fn finishes() {
+    let quarter = float(0.25);
+    for (count, map) in [(1, "15"), (2, "15"), (4, "15"), (3, "1d")] {
+        let columns = if map == "1d" { "01 one one" } else { "" };
+        let floats = [quarter.as_str(), "one", "zero", "one"][..count].concat();
+        let card = format!("{map} one one {columns} {count:02x} {floats}");
+        let whole = bytes(&card);
+        let (settings, next) = read_settings(&bytes(&format!("{card} 00")), 0).expect("accepted");
+        assert_eq!((settings.finishes, next), (count, whole.len()));
+        let mut roughnesses = [0.0; 4];
+        roughnesses[..count].copy_from_slice(&[0.25, 1.0, 0.0, 1.0][..count]);
+        assert_eq!(settings.roughnesses, roughnesses);
+        for end in 1..whole.len() {
+            assert_eq!(read_settings(&whole[..end], 0).err(), Some(4), "{end}");
+        }
+    }
+    // Without it there is one, by bit 1 or of +0.
+    for (map, roughness) in [("05 one one", 0.0), ("07 one one one", 1.0)] {
+        let (settings, _) = read_settings(&bytes(map), 0).expect("accepted");
+        assert_eq!(settings.finishes, 1);
+        assert_eq!(settings.roughnesses, [roughness, 0.0, 0.0, 0.0]);
+    }
+}
+
+/// 19 at the count byte, whatever D is and before a float is missed; after 7. Then the call: 11.
+#[test]
+fn too_many_finishes() {
+    for count in ["00", "05", "ff"] {
+        assert_eq!(text(&format!("15 one one {count}")), refused(19, 0));
+        assert_eq!(text(&format!("15 zero zero {count} one")), refused(19, 0));
+        assert_eq!(text(&format!("1d one one 00 {count}")), refused(19, 0));
+        assert_eq!(text(&format!("1d one one 21 {count}")), refused(7, 0));
+        assert_eq!(text(&format!("1d one one 01 {count}")), refused(4, 0));
+    }
+    let (half, above) = (float(0.5), float(1.5));
+    let nan = float(f64::NAN);
+    assert_eq!(
+        text(&format!("15 one one 02 {half} {above}")),
+        refused(11, 0)
+    );
+    assert_eq!(
+        text(&format!("15 one zero 02 {half} {nan}")),
+        refused(11, 0)
+    );
+    assert_eq!(
+        text(&format!("15 one zero 02 {half} {half}")),
+        refused(1, 0)
+    );
+}
+
+/// One line for a finish's friction and total: no number where there is one finish.
+#[test]
+fn lines_of_finishes() {
+    let names = "mach\nfriction\nbase\ntotal\n";
+    assert_eq!(text("15 one one 01 one"), names);
+    let names = "mach\nfriction 0\nfriction 1\nfriction 2\nbase\ntotal 0\ntotal 1\ntotal 2\n";
+    assert_eq!(text("15 one one 03 one zero one"), names);
+    let rough = float(0.01);
+    let card = format!("{} {rough} zero 28 one one", "1d one one 01 zero zero 02");
+    let printed = text(&card);
+    let words: Vec<&str> = printed
+        .lines()
+        .map(|line| &line[line.len() - 16..])
+        .collect();
+    // Below Reynolds number 10000 no roughness counts: 0.0148 × 1.5.
+    assert_eq!((words.len(), words[2]), (7, words[3]));
+    assert_eq!(words[2], format!("{:016x}", (0.0148f64 * 1.5).to_bits()));
+    assert_eq!(words[5], words[6]);
+}
+
+/// The longest settings card, and the longest text.
+#[test]
+fn longest() {
+    let columns = "zero".repeat(64);
+    let card = format!("1d one one 20 {columns} 04 one one one one");
+    assert_eq!(bytes(&card).len(), 563);
+    let text = text(&(card + &"00".repeat(16)));
+    assert_eq!((text.lines().count(), text.len()), (26, 14348));
 }
 
 /// The calls' refusals with their card: the settings card is 0, and a card is tested when it is

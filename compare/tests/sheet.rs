@@ -1,6 +1,6 @@
-//! The model of the sheet (docs/REFERENCE.md, Sheet): the example of docs/REFERENCE.md, friction and
-//! a burning base by hand, the refusals of its table, and that a list of calls leaves the rows that a
-//! build from nothing gives.
+//! The model of the sheet (docs/REFERENCE.md, Sheet) with one finish: the example of
+//! docs/REFERENCE.md, friction and a burning base by hand, the refusals of its table, and that a list
+//! of calls leaves the rows that a build from nothing gives.
 
 use compare::answer_bits;
 use compare::fixed::{ln, powf};
@@ -8,15 +8,18 @@ use compare::inputs::Random;
 use compare::model::*;
 use compare::original_fixed::NoseShape;
 
+/// The rows of one finish.
+const BASE: usize = base_row(1);
+const TOTAL: usize = total_row(1);
+const ROWS: usize = rows(1);
+
 fn settings(columns: &[Column]) -> Settings {
-    let mut held = [Column {
-        mach: 0.0,
-        reynolds: 0.0,
-    }; COLUMNS];
+    let mut held = [REST; COLUMNS];
     held[..columns.len()].copy_from_slice(columns);
     Settings {
         reference_diameter: 1.0,
-        roughness: 0.0,
+        finishes: 1,
+        roughnesses: [0.0; FINISHES],
         body_fineness: 1.0,
         count: columns.len(),
         columns: held,
@@ -73,7 +76,7 @@ fn finished(wetted_ratio: f64, roughness: Option<f64>) -> Part {
 /// The friction cells of these parts in a sheet whose roughness is 0.01 and whose B is 12.
 fn friction_cells(columns: &[Column], parts: &[Part]) -> Vec<u64> {
     let settings = Settings {
-        roughness: 0.01,
+        roughnesses: [0.01; FINISHES],
         body_fineness: 12.0,
         ..settings(columns)
     };
@@ -363,7 +366,7 @@ fn edits_leave_the_build() {
     for columns in 0..6 {
         let mut cells = vec![f64::NAN; ROWS * columns];
         let given = Settings {
-            roughness: 1e-4,
+            roughnesses: [1e-4; FINISHES],
             ..settings(&vec![REST; columns])
         };
         let (_, mut sheet) = open(&given, &mut cells);

@@ -35,21 +35,25 @@ extern "C" {
 enum {
     COBALNIS_COLUMNS = 32, /* columns that a sheet has room for */
     COBALNIS_PLACES = 16,  /* parts that it has room for */
+    COBALNIS_FINISHES = 4, /* finishes that it has room for */
     COBALNIS_QUERIES = 256 /* Mach numbers that one walk takes */
 };
 
-/* Rows of cells, one cell a column: a row for each place, then these. */
+/* The most rows and cells that a sheet has; cobalnis_sheet_cells says what one
+ * of fewer finishes and columns needs. */
 enum {
-    COBALNIS_FRICTION = COBALNIS_PLACES,
-    COBALNIS_BASE,
-    COBALNIS_TOTAL,
-    COBALNIS_ROWS
+    COBALNIS_ROWS = COBALNIS_PLACES + 1 + 2 * COBALNIS_FINISHES,
+    COBALNIS_CELLS = COBALNIS_ROWS * COBALNIS_COLUMNS
 };
 
 /* Words of a part, where those of a sheet begin, and words of a sheet. */
 enum {
     COBALNIS_PART_WORDS = 8,
-    COBALNIS_MACHS_AT = 4,
+    COBALNIS_FINISHES_AT = 1,
+    COBALNIS_ROUGHNESSES_AT = 2,
+    COBALNIS_FINENESS_AT = COBALNIS_ROUGHNESSES_AT + COBALNIS_FINISHES,
+    COBALNIS_COLUMNS_AT = COBALNIS_FINENESS_AT + 1,
+    COBALNIS_MACHS_AT = COBALNIS_COLUMNS_AT + 1,
     COBALNIS_REYNOLDS_AT = COBALNIS_MACHS_AT + COBALNIS_COLUMNS,
     COBALNIS_NOZZLE_AT = COBALNIS_REYNOLDS_AT + COBALNIS_COLUMNS,
     COBALNIS_PARTS_AT = COBALNIS_NOZZLE_AT + 1,
@@ -57,11 +61,14 @@ enum {
     COBALNIS_SHEET_WORDS = COBALNIS_FIRST_PART + COBALNIS_PLACES * COBALNIS_PART_WORDS
 };
 
-/* What cobalnis_print needs: a line for Mach, each place, friction, base and
- * total, of a name, a space and 16 digits a column, and a line feed. */
+/* What cobalnis_print needs: a line for Mach, each place, base, and the
+ * friction and the total of each finish, of a name, a space and two digits
+ * where there are several of them, a space and 16 digits a column, and a line
+ * feed. */
 enum {
     COBALNIS_ROW_TEXT = COBALNIS_COLUMNS * 17 + 1,
-    COBALNIS_LONGEST_TEXT = 4 + 8 + 4 + 5 + 7 * COBALNIS_PLACES
+    COBALNIS_LONGEST_TEXT = 4 + (4 + 3) * COBALNIS_PLACES
+                            + (8 + 3 + 5 + 3) * COBALNIS_FINISHES + 4
                             + (1 + COBALNIS_ROWS) * COBALNIS_ROW_TEXT
 };
 
@@ -78,7 +85,8 @@ enum {
     COBALNIS_MANY_PARTS = 9,    /* more than COBALNIS_PLACES parts */
     COBALNIS_FEW_CELLS = 10,    /* too few cells, or too short an output, or too many queries */
     COBALNIS_HOUSE_INTERVAL = 11, /* a size outside what the clubs allow */
-    COBALNIS_FALLING_MACH = 16  /* a walk's Mach number is below the one before it */
+    COBALNIS_FALLING_MACH = 16, /* a walk's Mach number is below the one before it */
+    COBALNIS_FINISH_COUNT = 19  /* no finish, or more than COBALNIS_FINISHES */
 };
 
 /* Codes of refusal 1 (docs/REFERENCE.md, Codes), and what
@@ -208,7 +216,7 @@ uint32_t cobalnis_curve(uint64_t shape, double parameter, double fineness_ratio,
  * words and cells are untouched, and bits is the value refused. Open looks at
  * the settings' words only, empties the design and starts coasting. Ignite
  * takes the nozzle diameter, from 0 to 100, and burnout puts it back to 0:
- * these two write the base and the total row and no other. */
+ * these two write the base row and the total rows and no other. */
 uint32_t cobalnis_open(uint64_t sheet[COBALNIS_SHEET_WORDS], double *cells,
                        size_t cell_count, uint64_t *bits);
 uint32_t cobalnis_insert(uint64_t sheet[COBALNIS_SHEET_WORDS], size_t place,
@@ -245,7 +253,8 @@ size_t cobalnis_print(const uint8_t *bytes, size_t n, uint8_t *out, size_t m);
 /* ---- structs that lie as the words do */
 
 /* Where own_roughness is 0, roughness is not looked at; any other number makes
- * it the part's own. Handed back: 0 and 0, or 1 and the part's own. */
+ * it the part's own in every finish. Handed back: 0 and 0, or 1 and the part's
+ * own. */
 typedef struct {
     uint64_t shape;
     double parameter; /* 0 for a conical and an elliptical one */
@@ -257,9 +266,12 @@ typedef struct {
     double roughness;
 } cobalnis_part;
 
+/* The finishes are as many roughnesses, each with a friction row and a total
+ * row; those past them are not looked at. */
 typedef struct {
     double reference_diameter;
-    double roughness;
+    uint64_t finishes; /* 1 to COBALNIS_FINISHES */
+    double roughnesses[COBALNIS_FINISHES];
     double body_fineness;
     uint64_t columns;
     double mach[COBALNIS_COLUMNS];
@@ -286,7 +298,10 @@ static_assert(offsetof(cobalnis_part, wetted_ratio) == 8 * 5, "the wetted ratio"
 static_assert(offsetof(cobalnis_part, own_roughness) == 8 * 6, "its own roughness or not");
 static_assert(offsetof(cobalnis_part, roughness) == 8 * 7, "the last word of a part");
 static_assert(sizeof(cobalnis_sheet) == 8 * COBALNIS_SHEET_WORDS, "a sheet's words");
-static_assert(offsetof(cobalnis_sheet, columns) == 8 * 3, "the number of columns");
+static_assert(offsetof(cobalnis_sheet, finishes) == 8 * COBALNIS_FINISHES_AT, "finishes");
+static_assert(offsetof(cobalnis_sheet, roughnesses) == 8 * COBALNIS_ROUGHNESSES_AT, "roughnesses");
+static_assert(offsetof(cobalnis_sheet, body_fineness) == 8 * COBALNIS_FINENESS_AT, "the fineness");
+static_assert(offsetof(cobalnis_sheet, columns) == 8 * COBALNIS_COLUMNS_AT, "how many columns");
 static_assert(offsetof(cobalnis_sheet, mach) == 8 * COBALNIS_MACHS_AT, "Machs");
 static_assert(offsetof(cobalnis_sheet, reynolds) == 8 * COBALNIS_REYNOLDS_AT, "Reynolds numbers");
 static_assert(offsetof(cobalnis_sheet, nozzle_diameter) == 8 * COBALNIS_NOZZLE_AT, "the nozzle");
@@ -665,11 +680,55 @@ static inline uint32_t cobalnis_sheet_burnout(cobalnis_sheet *sheet, double *cel
     return cobalnis_answer(status, bits, value);
 }
 
-/* The cells of a row, one a column. */
+/* ---- rows of cells, one cell a column
+ *
+ * First a row for each place, then the friction rows, one a finish, the base,
+ * the total rows, one a finish. A place is to be below COBALNIS_PLACES, a finish
+ * below the sheet's finishes. */
+
+/* The rows and the cells that a sheet of these finishes and columns needs. */
+static inline size_t cobalnis_sheet_rows(const cobalnis_sheet *sheet)
+{
+    return COBALNIS_PLACES + 1 + 2 * (size_t)sheet->finishes;
+}
+
+static inline size_t cobalnis_sheet_cells(const cobalnis_sheet *sheet)
+{
+    return cobalnis_sheet_rows(sheet) * (size_t)sheet->columns;
+}
+
+/* The cells of a row by its number. */
 static inline const double *cobalnis_sheet_row(const cobalnis_sheet *sheet, size_t row,
                                                const double *cells)
 {
     return cells + row * (size_t)sheet->columns;
+}
+
+/* Pressure drag of the part at a place. */
+static inline const double *cobalnis_sheet_part_row(const cobalnis_sheet *sheet, size_t place,
+                                                    const double *cells)
+{
+    return cobalnis_sheet_row(sheet, place, cells);
+}
+
+/* Skin friction of the whole body in a finish, the first being 0. */
+static inline const double *cobalnis_sheet_friction(const cobalnis_sheet *sheet, size_t finish,
+                                                    const double *cells)
+{
+    return cobalnis_sheet_row(sheet, COBALNIS_PLACES + finish, cells);
+}
+
+/* Drag of the blunt end, less what the nozzle fills of it. */
+static inline const double *cobalnis_sheet_base(const cobalnis_sheet *sheet, const double *cells)
+{
+    return cobalnis_sheet_row(sheet, COBALNIS_PLACES + (size_t)sheet->finishes, cells);
+}
+
+/* All part rows, a finish's friction, and the base. */
+static inline const double *cobalnis_sheet_total(const cobalnis_sheet *sheet, size_t finish,
+                                                 const double *cells)
+{
+    return cobalnis_sheet_row(sheet, COBALNIS_PLACES + (size_t)sheet->finishes + 1 + finish, cells);
 }
 
 /* ---- cards */

@@ -5,11 +5,16 @@
 //! null (an empty slice's too), a `&mut` overlaps nothing else, and a slice has as many items as
 //! its length. The C side asks nothing of the numbers.
 
-use crate::{COLUMNS, PLACES};
+use crate::{COLUMNS, FINISHES, PLACES};
 
-/// Where the words of a sheet begin: Machs, Reynolds numbers, the nozzle diameter, the number of
-/// parts, the parts.
-pub const MACHS_AT: usize = 4;
+/// Where the words of a sheet lie, after the reference diameter: the number of finishes, their
+/// roughnesses, the body fineness, the number of columns, Machs, Reynolds numbers, the nozzle
+/// diameter, the number of parts, the parts.
+pub const FINISHES_AT: usize = 1;
+pub const ROUGHNESSES_AT: usize = FINISHES_AT + 1;
+pub const FINENESS_AT: usize = ROUGHNESSES_AT + FINISHES;
+pub const COLUMNS_AT: usize = FINENESS_AT + 1;
+pub const MACHS_AT: usize = COLUMNS_AT + 1;
 pub const REYNOLDS_AT: usize = MACHS_AT + COLUMNS;
 pub const NOZZLE_AT: usize = REYNOLDS_AT + COLUMNS;
 pub const PARTS_AT: usize = NOZZLE_AT + 1;

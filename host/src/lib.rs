@@ -9,7 +9,7 @@
 //! - [`Curve`]: the pressure drag of a nose against Mach number; [`Nose`]: Stoney's measured ones,
 //!   with [`Nose::walk`] for a whole flight.
 //! - [`Sheet`]: parts and columns, and the drag of each part at each column, kept right by edits,
-//!   burning or coasting.
+//!   burning or coasting, with up to four finishes side by side.
 //! - [`classify`]: which of IEEE 754's five classes any 64 bits are in.
 //! - [`Settings::read`], [`Part::read`], [`print`]: cards.
 //! - [`words`]: the same by numbers and words, as the C interface has them.
@@ -26,7 +26,7 @@ pub use class::{classify, FloatClass};
 pub use curve::{takes_cone_formula, Curve, Nose, Shape};
 pub use formulas::Formula;
 pub use refusal::{check_dimension, Quantity, Refusal};
-pub use sheet::{print, Column, Part, Settings, Sheet, COLUMNS, PLACES, ROWS};
+pub use sheet::{print, rows, Column, Part, Settings, Sheet, COLUMNS, FINISHES, PLACES};
 pub use walk::{Walk, QUERIES};
 
 /// The C functions themselves, for programs that measure them.
@@ -39,8 +39,9 @@ pub mod words {
     pub use crate::c::{
         burnout, check_dimension, classify, curve, formula, ignite, insert, nose_lookup,
         nose_point, nose_walk, open, print, read_part, read_settings, remove, replace, set_column,
-        takes_cone_formula, PartWords, SheetWords, FIRST_PART, MACHS_AT, NOZZLE_AT, PARTS_AT,
-        PART_WORDS, REYNOLDS_AT, SHEET_WORDS,
+        takes_cone_formula, PartWords, SheetWords, COLUMNS_AT, FINENESS_AT, FINISHES_AT,
+        FIRST_PART, MACHS_AT, NOZZLE_AT, PARTS_AT, PART_WORDS, REYNOLDS_AT, ROUGHNESSES_AT,
+        SHEET_WORDS,
     };
     pub use crate::sheet::LONGEST_TEXT;
 }

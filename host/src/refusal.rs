@@ -5,12 +5,12 @@ use std::error::Error;
 use std::fmt;
 
 use crate::c;
-use crate::sheet::{COLUMNS, PLACES};
+use crate::sheet::{COLUMNS, FINISHES, PLACES};
 
 /// Why a call was refused. Nothing was changed by it.
 #[derive(Debug, Clone, Copy)]
 pub struct Refusal {
-    /// Its number, 1 to 11 or 16 (docs/REFERENCE.md, Refusals).
+    /// Its number, 1 to 11, 16 or 19 (docs/REFERENCE.md, Refusals).
     pub number: u8,
     /// For number 1 the code of the quantity, 1 to 22, else 0.
     pub code: u8,
@@ -68,6 +68,7 @@ impl fmt::Display for Refusal {
             10 => "too few cells were lent, or too many Mach numbers asked",
             11 => "a size is outside what the clubs allow",
             16 => "a Mach number is below the one before it",
+            19 => return write!(f, "no finish at all, or more than {FINISHES}"),
             _ => "refused",
         };
         f.write_str(text)

@@ -1,24 +1,33 @@
 //! The sheet, its settings and parts, and cards.
 
 use crate::c::{
-    self, PartWords, SheetWords, FIRST_PART, MACHS_AT, NOZZLE_AT, PARTS_AT, PART_WORDS,
-    REYNOLDS_AT, SHEET_WORDS,
+    self, PartWords, SheetWords, COLUMNS_AT, FINENESS_AT, FINISHES_AT, FIRST_PART, MACHS_AT,
+    NOZZLE_AT, PARTS_AT, PART_WORDS, REYNOLDS_AT, ROUGHNESSES_AT, SHEET_WORDS,
 };
 use crate::{Refusal, Shape};
 
-/// Columns and parts that a sheet has room for.
+/// Columns, parts and finishes that a sheet has room for.
 pub const COLUMNS: usize = 32;
 pub const PLACES: usize = 16;
-/// Rows of cells: a row for each place, friction, base, total.
-pub const ROWS: usize = TOTAL + 1;
+pub const FINISHES: usize = 4;
 
+/// Rows of cells of a sheet with so many finishes: a row for each place, a friction row for each
+/// finish, base, a total for each finish.
+pub const fn rows(finishes: usize) -> usize {
+    finishes.saturating_mul(2).saturating_add(PLACES + 1)
+}
+
+/// The first finish's friction row.
 const FRICTION: usize = PLACES;
-const BASE: usize = FRICTION + 1;
-const TOTAL: usize = BASE + 1;
 
-/// What [`print`] needs at most: a line for Mach, each place, friction, base and total, of a name,
-/// a space and 16 digits a column, and a line feed.
-pub const LONGEST_TEXT: usize = 4 + 8 + 4 + 5 + 7 * PLACES + (1 + ROWS) * (COLUMNS * 17 + 1);
+/// What [`print`] needs: a line for Mach, each place, base, and the friction and the total of each
+/// finish, of a name, a space and two digits where there are several of them, a space and 16 digits a
+/// column, and a line feed.
+pub const LONGEST_TEXT: usize = 4
+    + (4 + 3) * PLACES
+    + (8 + 3 + 5 + 3) * FINISHES
+    + 4
+    + (1 + rows(FINISHES)) * (COLUMNS * 17 + 1);
 
 /// One column: what the drag is asked at.
 #[derive(Debug, Clone, Copy, PartialEq)]
@@ -32,22 +41,30 @@ pub struct Column {
 pub struct Settings {
     /// From 0.001 to 100.
     pub reference_diameter: f64,
-    /// From 0 to 1.
-    pub roughness: f64,
+    /// The finishes: from one to [`FINISHES`], each from 0 to 1.
+    pub roughnesses: Vec<f64>,
     pub body_fineness: f64,
     /// At most [`COLUMNS`].
     pub columns: Vec<Column>,
 }
 
 impl Settings {
-    /// The settings' words in a sheet without parts. Columns past the 32nd have no room; their
-    /// number alone has them refused.
+    /// The cells that a sheet of these settings needs: [`rows`] a column.
+    pub fn cell_count(&self) -> usize {
+        rows(self.roughnesses.len()).saturating_mul(self.columns.len())
+    }
+
+    /// The settings' words in a sheet without parts. Columns past the 32nd and roughnesses past the
+    /// fourth have no room; their number alone has them refused.
     fn words(&self) -> SheetWords {
         let mut words = [0; SHEET_WORDS];
         words[0] = self.reference_diameter.to_bits();
-        words[1] = self.roughness.to_bits();
-        words[2] = self.body_fineness.to_bits();
-        words[3] = self.columns.len() as u64;
+        words[FINISHES_AT] = self.roughnesses.len() as u64;
+        for (at, roughness) in self.roughnesses.iter().take(FINISHES).enumerate() {
+            words[ROUGHNESSES_AT + at] = roughness.to_bits();
+        }
+        words[FINENESS_AT] = self.body_fineness.to_bits();
+        words[COLUMNS_AT] = self.columns.len() as u64;
         for (at, column) in self.columns.iter().take(COLUMNS).enumerate() {
             words[MACHS_AT + at] = column.mach.to_bits();
             words[REYNOLDS_AT + at] = column.reynolds.to_bits();
@@ -57,16 +74,18 @@ impl Settings {
 
     /// The settings out of a sheet's words.
     fn of(words: &SheetWords) -> Self {
-        let count = (words[3] as usize).min(COLUMNS);
+        let float = |at: usize| f64::from_bits(words[at]);
+        let columns = (words[COLUMNS_AT] as usize).min(COLUMNS);
         let column = |at: usize| Column {
-            mach: f64::from_bits(words[MACHS_AT + at]),
-            reynolds: f64::from_bits(words[REYNOLDS_AT + at]),
+            mach: float(MACHS_AT + at),
+            reynolds: float(REYNOLDS_AT + at),
         };
+        let finishes = (words[FINISHES_AT] as usize).min(FINISHES);
         Self {
-            reference_diameter: f64::from_bits(words[0]),
-            roughness: f64::from_bits(words[1]),
-            body_fineness: f64::from_bits(words[2]),
-            columns: (0..count).map(column).collect(),
+            reference_diameter: float(0),
+            roughnesses: (0..finishes).map(|at| float(ROUGHNESSES_AT + at)).collect(),
+            body_fineness: float(FINENESS_AT),
+            columns: (0..columns).map(column).collect(),
         }
     }
 
@@ -91,7 +110,7 @@ pub struct Part {
     pub joint_angle: f64,
     /// Wetted area over reference area, from 0 to 10000.
     pub wetted_ratio: f64,
-    /// Its own, from 0 to 1; none: the settings' roughness.
+    /// Its own in every finish, from 0 to 1; none: the settings' roughness.
     pub roughness: Option<f64>,
 }
 
@@ -145,8 +164,8 @@ pub struct Sheet<'cells> {
 }
 
 impl<'cells> Sheet<'cells> {
-    /// Opens a sheet without parts, coasting, over these cells, of which it needs [`ROWS`] a column;
-    /// those past them are never written.
+    /// Opens a sheet without parts, coasting, over these cells, of which it needs
+    /// [`Settings::cell_count`]; those past them are never written.
     pub fn open(settings: &Settings, cells: &'cells mut [f64]) -> Result<Self, Refusal> {
         let mut words = settings.words();
         let answer = c::open(&mut words, cells);
@@ -207,8 +226,12 @@ impl<'cells> Sheet<'cells> {
         f64::from_bits(self.words[NOZZLE_AT])
     }
 
+    pub fn finish_count(&self) -> usize {
+        self.words[FINISHES_AT] as usize
+    }
+
     pub fn column_count(&self) -> usize {
-        self.words[3] as usize
+        self.words[COLUMNS_AT] as usize
     }
 
     pub fn part_count(&self) -> usize {
@@ -229,19 +252,19 @@ impl<'cells> Sheet<'cells> {
         (place < self.part_count()).then(|| self.row(place))
     }
 
-    /// Skin friction of the whole body.
-    pub fn friction(&self) -> &[f64] {
-        self.row(FRICTION)
+    /// Skin friction of the whole body in a finish, the first being 0.
+    pub fn friction(&self, finish: usize) -> Option<&[f64]> {
+        (finish < self.finish_count()).then(|| self.row(FRICTION + finish))
     }
 
     /// Drag of the blunt end, less what the nozzle fills of it.
     pub fn base(&self) -> &[f64] {
-        self.row(BASE)
+        self.row(self.base_row())
     }
 
-    /// All part rows, friction and base.
-    pub fn total(&self) -> &[f64] {
-        self.row(TOTAL)
+    /// All part rows, a finish's friction, and base.
+    pub fn total(&self, finish: usize) -> Option<&[f64]> {
+        (finish < self.finish_count()).then(|| self.row(self.base_row() + 1 + finish))
     }
 
     /// All lent cells.
@@ -257,9 +280,13 @@ impl<'cells> Sheet<'cells> {
     /// A call's answer; an accepted call's NaN cells get the bits of docs/REFERENCE.md, Numbers.
     fn accept(&mut self, (status, bits): (u32, u64)) -> Result<(), Refusal> {
         Refusal::of(status, bits)?;
-        let used = ROWS * self.column_count();
+        let used = rows(self.finish_count()) * self.column_count();
         c::settle(&mut self.cells[..used]);
         Ok(())
+    }
+
+    fn base_row(&self) -> usize {
+        FRICTION + self.finish_count()
     }
 
     fn row(&self, row: usize) -> &[f64] {

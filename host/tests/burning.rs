@@ -3,9 +3,10 @@
 
 use cobalnis::formulas::base_drag_coefficient;
 use cobalnis::words::{self, SheetWords, NOZZLE_AT, PARTS_AT};
-use cobalnis::{Column, Part, Refusal, Settings, Shape, Sheet, ROWS};
+use cobalnis::{rows, Column, Part, Refusal, Settings, Shape, Sheet};
 
 const MACHS: [f64; 3] = [0.0, 0.7, 1.5];
+const ROWS: usize = rows(1);
 const CELLS: usize = ROWS * MACHS.len();
 const D: f64 = 0.1;
 
@@ -31,7 +32,7 @@ fn settings() -> Settings {
     };
     Settings {
         reference_diameter: D,
-        roughness: 1e-4,
+        roughnesses: vec![1e-4],
         body_fineness: 12.0,
         columns: MACHS.map(column).into(),
     }
@@ -79,7 +80,7 @@ fn has_base(sheet: &Sheet, d: f64, n: f64) {
     for at in 0..MACHS.len() {
         let column = sheet.cells()[at..].iter().step_by(MACHS.len());
         let total = column.take(ROWS - 1).fold(0.0, |sum, x| sum + x);
-        assert_eq!(sheet.total()[at].to_bits(), total.to_bits());
+        assert_eq!(sheet.total(0).unwrap()[at].to_bits(), total.to_bits());
     }
 }
 

@@ -265,5 +265,6 @@ int main(void)
     arguments_in_order();
     curves();
     sheets_and_cards();
+    finishes();
     return failures > 0;
 }

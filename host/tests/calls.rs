@@ -1,5 +1,6 @@
 //! Each function of the wrapper, accepted and refused, with the values of docs/REFERENCE.md,
-//! Values. The sheet, the cards and `print` are in sheets.rs, burning and coasting in burning.rs.
+//! Values. The sheet, the cards and `print` are in sheets.rs, burning and coasting in burning.rs,
+//! finishes in finishes.rs.
 
 mod common;
 
@@ -146,7 +147,8 @@ fn dimensions() {
 fn refusals_in_words() {
     let refused = domain(Quantity::JointAngle, NAN);
     assert_eq!(refused.to_string(), "the joint angle can't be NaN");
-    let mut texts: Vec<String> = (1..=11).map(|n| refusal(n).to_string()).collect();
+    let numbers = (1..=11).chain([16, 19]);
+    let mut texts: Vec<String> = numbers.map(|n| refusal(n).to_string()).collect();
     texts.extend(Quantity::ALL.map(|what| domain(what, -1.0).to_string()));
     let count = texts.len();
     texts.sort();

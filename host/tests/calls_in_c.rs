@@ -1,4 +1,5 @@
-//! Compiles tests/calls.c and tests/sheets.c against the header and the archive, and runs them.
+//! Compiles tests/calls.c, tests/sheets.c and tests/finishes.c against the header and the archive, and
+//! runs them.
 
 use std::path::Path;
 use std::process::Command;
@@ -13,6 +14,7 @@ fn calls_in_c() {
         .arg(here.join("include"))
         .arg(here.join("tests/calls.c"))
         .arg(here.join("tests/sheets.c"))
+        .arg(here.join("tests/finishes.c"))
         .arg(env!("COBALNIS_ARCHIVE"))
         .args(["-lm", "-o"])
         .arg(&program)

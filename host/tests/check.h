@@ -22,7 +22,8 @@ extern int failures;
 
 static const uint64_t SHOWN_NAN = 0x7ff8000000000000u;
 
-/* The tests of sheets.c. */
+/* The tests of sheets.c and of finishes.c. */
 void sheets_and_cards(void);
+void finishes(void);
 
 #endif

@@ -2,6 +2,9 @@
  * docs/REFERENCE.md, Example. */
 #include "check.h"
 
+/* The rows of a sheet of one finish. */
+enum { FRICTION = COBALNIS_PLACES, BASE, TOTAL, ROWS };
+
 /* The cards of docs/REFERENCE.md, Example: D and B of 1, one column at rest, a flat face. */
 static const uint8_t CARDS[] = {
     0x0d, 0, 0, 0, 0, 0, 0, 0xf0, 0x3f, 0, 0, 0, 0, 0, 0, 0xf0, 0x3f,
@@ -14,80 +17,82 @@ static const cobalnis_part FACE = {.shape = COBALNIS_CONICAL, .aft_diameter = 1}
 /* The sheet of docs/REFERENCE.md, Example, opened over these cells. */
 static cobalnis_sheet example(double *cells, size_t cell_count)
 {
-    cobalnis_sheet sheet = {.reference_diameter = 1, .body_fineness = 1, .columns = 1};
+    cobalnis_sheet sheet = {.reference_diameter = 1, .finishes = 1, .body_fineness = 1,
+                            .columns = 1};
     CHECK(cobalnis_sheet_open(&sheet, cells, cell_count, NULL) == 0);
     return sheet;
 }
 
 static void sheet_calls(void)
 {
-    double cells[COBALNIS_ROWS + 1], x = 7;
-    for (size_t i = 0; i <= COBALNIS_ROWS; i++)
+    double cells[ROWS + 1], x = 7;
+    for (size_t i = 0; i <= ROWS; i++)
         cells[i] = -3;
-    cobalnis_sheet sheet = example(cells, COBALNIS_ROWS);
+    cobalnis_sheet sheet = example(cells, ROWS);
     CHECK(sheet.parts == 0 && cells[0] == 0);
-    CHECK(cobalnis_sheet_insert(&sheet, 0, FACE, cells, COBALNIS_ROWS, &x) == 0);
+    CHECK(cobalnis_sheet_insert(&sheet, 0, FACE, cells, ROWS, &x) == 0);
     CHECK(sheet.parts == 1 && sheet.part[0].aft_diameter == 1);
-    CHECK(cobalnis_sheet_row(&sheet, 0, cells)[0] == 0.85);
-    CHECK(cobalnis_sheet_row(&sheet, COBALNIS_FRICTION, cells)[0] == 0);
-    CHECK(cobalnis_sheet_row(&sheet, COBALNIS_BASE, cells)[0] == 0.12);
-    CHECK(cobalnis_sheet_row(&sheet, COBALNIS_TOTAL, cells)[0] == 0.85 + 0.12);
-    CHECK(cells[COBALNIS_ROWS] == -3);
+    CHECK(cobalnis_sheet_part_row(&sheet, 0, cells)[0] == 0.85);
+    CHECK(cobalnis_sheet_friction(&sheet, 0, cells)[0] == 0);
+    CHECK(cobalnis_sheet_base(&sheet, cells)[0] == 0.12);
+    CHECK(cobalnis_sheet_total(&sheet, 0, cells)[0] == 0.85 + 0.12);
+    CHECK(cells[ROWS] == -3);
 
     cobalnis_part half = FACE;
     half.aft_diameter = 0.5;
-    CHECK(cobalnis_sheet_replace(&sheet, 0, half, cells, COBALNIS_ROWS, &x) == 0);
+    CHECK(cobalnis_sheet_replace(&sheet, 0, half, cells, ROWS, &x) == 0);
     CHECK(cells[0] == 0.85 * 0.25);
-    CHECK(cobalnis_sheet_set_column(&sheet, 0, 1, 1e6, cells, COBALNIS_ROWS, &x) == 0);
+    CHECK(cobalnis_sheet_set_column(&sheet, 0, 1, 1e6, cells, ROWS, &x) == 0);
     CHECK(sheet.mach[0] == 1 && sheet.reynolds[0] == 1e6);
-    CHECK(cobalnis_sheet_remove(&sheet, 0, cells, COBALNIS_ROWS, &x) == 0);
+    CHECK(cobalnis_sheet_remove(&sheet, 0, cells, ROWS, &x) == 0);
     CHECK(sheet.parts == 0 && cells[0] == 0);
 }
 
 static void sheet_refusals(void)
 {
-    double cells[COBALNIS_ROWS], x = 7;
-    cobalnis_sheet sheet = example(cells, COBALNIS_ROWS);
+    double cells[ROWS], x = 7;
+    cobalnis_sheet sheet = example(cells, ROWS);
     cobalnis_sheet before = sheet;
     cobalnis_part bad = FACE;
     bad.joint_angle = NAN;
-    CHECK(cobalnis_sheet_insert(&sheet, 0, bad, cells, COBALNIS_ROWS, &x) ==
+    CHECK(cobalnis_sheet_insert(&sheet, 0, bad, cells, ROWS, &x) ==
           DOMAIN_OF(COBALNIS_JOINT_ANGLE));
     CHECK(isnan(x));
     bad.shape = 6;
     CHECK(cobalnis_sheet_insert(&sheet, 9, bad, cells, 0, &x) == COBALNIS_RESERVED);
-    CHECK(cobalnis_sheet_replace(&sheet, 0, FACE, cells, COBALNIS_ROWS, &x) == COBALNIS_NO_PLACE);
-    CHECK(cobalnis_sheet_remove(&sheet, 0, cells, COBALNIS_ROWS, &x) == COBALNIS_NO_PLACE);
+    CHECK(cobalnis_sheet_replace(&sheet, 0, FACE, cells, ROWS, &x) == COBALNIS_NO_PLACE);
+    CHECK(cobalnis_sheet_remove(&sheet, 0, cells, ROWS, &x) == COBALNIS_NO_PLACE);
     CHECK(cobalnis_sheet_remove(&sheet, 0, cells, 18, &x) == COBALNIS_FEW_CELLS);
-    CHECK(cobalnis_sheet_set_column(&sheet, 1, 0, 0, cells, COBALNIS_ROWS, &x) ==
+    CHECK(cobalnis_sheet_set_column(&sheet, 1, 0, 0, cells, ROWS, &x) ==
           COBALNIS_NO_PLACE);
-    CHECK(cobalnis_sheet_set_column(&sheet, 0, -1, 0, cells, COBALNIS_ROWS, &x) ==
+    CHECK(cobalnis_sheet_set_column(&sheet, 0, -1, 0, cells, ROWS, &x) ==
           DOMAIN_OF(COBALNIS_MACH));
     CHECK(x == -1);
     CHECK(memcmp(&sheet, &before, sizeof sheet) == 0);
 
     for (size_t i = 0; i < COBALNIS_PLACES; i++)
-        CHECK(cobalnis_sheet_insert(&sheet, i, FACE, cells, COBALNIS_ROWS, NULL) == 0);
-    CHECK(cobalnis_sheet_insert(&sheet, 0, FACE, cells, COBALNIS_ROWS, NULL) ==
+        CHECK(cobalnis_sheet_insert(&sheet, i, FACE, cells, ROWS, NULL) == 0);
+    CHECK(cobalnis_sheet_insert(&sheet, 0, FACE, cells, ROWS, NULL) ==
           COBALNIS_MANY_PARTS);
     sheet.columns = 33;
-    CHECK(cobalnis_sheet_open(&sheet, cells, COBALNIS_ROWS, NULL) == COBALNIS_MANY_COLUMNS);
+    CHECK(cobalnis_sheet_open(&sheet, cells, ROWS, NULL) == COBALNIS_MANY_COLUMNS);
     sheet.columns = 1;
     sheet.reference_diameter = 0;
-    CHECK(cobalnis_sheet_open(&sheet, cells, COBALNIS_ROWS, NULL) == COBALNIS_HOUSE_INTERVAL);
+    CHECK(cobalnis_sheet_open(&sheet, cells, ROWS, NULL) == COBALNIS_HOUSE_INTERVAL);
 }
 
 /* A body so short that its form factor overflows, and a part with nothing
  * wetted: the friction is a NaN. Without parts it is +0. */
 static void nan_cells(void)
 {
-    double cells[COBALNIS_ROWS];
-    cobalnis_sheet sheet = {.reference_diameter = 1, .body_fineness = 1e-320, .columns = 1};
-    CHECK(cobalnis_sheet_open(&sheet, cells, COBALNIS_ROWS, NULL) == 0);
-    CHECK(cobalnis_bits(cells[COBALNIS_FRICTION]) == 0);
-    CHECK(cobalnis_sheet_insert(&sheet, 0, FACE, cells, COBALNIS_ROWS, NULL) == 0);
-    CHECK(cobalnis_bits(cells[COBALNIS_FRICTION]) == SHOWN_NAN);
-    CHECK(cobalnis_bits(cells[COBALNIS_TOTAL]) == SHOWN_NAN);
+    double cells[ROWS];
+    cobalnis_sheet sheet = {.reference_diameter = 1, .finishes = 1, .body_fineness = 1e-320,
+                            .columns = 1};
+    CHECK(cobalnis_sheet_open(&sheet, cells, ROWS, NULL) == 0);
+    CHECK(cobalnis_bits(cells[FRICTION]) == 0);
+    CHECK(cobalnis_sheet_insert(&sheet, 0, FACE, cells, ROWS, NULL) == 0);
+    CHECK(cobalnis_bits(cells[FRICTION]) == SHOWN_NAN);
+    CHECK(cobalnis_bits(cells[TOTAL]) == SHOWN_NAN);
     CHECK(cobalnis_bits(-0.0) == 0x8000000000000000u && cobalnis_bits(-NAN) == SHOWN_NAN);
     CHECK(cobalnis_bits(INFINITY) == 0x7ff0000000000000u);
 }
@@ -114,31 +119,31 @@ static double added(double roughness)
 /* A part's own roughness is handed back as it was given; absent, as absent. */
 static void own_roughness(void)
 {
-    double cells[COBALNIS_ROWS], x = 7;
-    cobalnis_sheet sheet = example(cells, COBALNIS_ROWS);
-    const double *friction = cobalnis_sheet_row(&sheet, COBALNIS_FRICTION, cells);
-    sheet.roughness = 1e-2;
-    CHECK(cobalnis_sheet_set_column(&sheet, 0, 0, 1e6, cells, COBALNIS_ROWS, &x) == 0);
-    CHECK(cobalnis_sheet_insert(&sheet, 0, finished(1e-3), cells, COBALNIS_ROWS, &x) == 0);
+    double cells[ROWS], x = 7;
+    cobalnis_sheet sheet = example(cells, ROWS);
+    const double *friction = cobalnis_sheet_friction(&sheet, 0, cells);
+    sheet.roughnesses[0] = 1e-2;
+    CHECK(cobalnis_sheet_set_column(&sheet, 0, 0, 1e6, cells, ROWS, &x) == 0);
+    CHECK(cobalnis_sheet_insert(&sheet, 0, finished(1e-3), cells, ROWS, &x) == 0);
     CHECK(sheet.part[0].own_roughness == 1 && sheet.part[0].roughness == 1e-3);
     CHECK(friction[0] == added(1e-3));
 
     /* Where it has none of its own, its number is not looked at. */
     cobalnis_part plain = finished(1.5);
     plain.own_roughness = 0;
-    CHECK(cobalnis_sheet_insert(&sheet, 1, plain, cells, COBALNIS_ROWS, &x) == 0);
+    CHECK(cobalnis_sheet_insert(&sheet, 1, plain, cells, ROWS, &x) == 0);
     CHECK(sheet.part[1].own_roughness == 0 && cobalnis_bits(sheet.part[1].roughness) == 0);
     CHECK(friction[0] == added(1e-3) + added(1e-2) && added(1e-2) != added(1e-3));
 
     /* Any number but 0 makes it the part's own; -0 passes. */
     cobalnis_part other = finished(-0.0);
     other.own_roughness = UINT64_MAX;
-    CHECK(cobalnis_sheet_replace(&sheet, 0, other, cells, COBALNIS_ROWS, &x) == 0);
+    CHECK(cobalnis_sheet_replace(&sheet, 0, other, cells, ROWS, &x) == 0);
     CHECK(sheet.part[0].own_roughness == 1);
     CHECK(cobalnis_bits(sheet.part[0].roughness) == 0x8000000000000000u);
     other = finished(1);
     other.own_roughness = 2;
-    CHECK(cobalnis_sheet_replace(&sheet, 1, other, cells, COBALNIS_ROWS, &x) == 0);
+    CHECK(cobalnis_sheet_replace(&sheet, 1, other, cells, ROWS, &x) == 0);
     CHECK(sheet.part[1].own_roughness == 1 && sheet.part[1].roughness == 1);
     CHECK(friction[0] == added(0) + added(1));
 }
@@ -147,24 +152,24 @@ static void own_roughness(void)
 static void own_roughness_refused(void)
 {
     static const double BAD[] = {1.5, NAN, -1};
-    double cells[COBALNIS_ROWS], kept[COBALNIS_ROWS], x = 7;
-    cobalnis_sheet sheet = example(cells, COBALNIS_ROWS);
-    CHECK(cobalnis_sheet_insert(&sheet, 0, FACE, cells, COBALNIS_ROWS, &x) == 0);
-    CHECK(cobalnis_sheet_insert(&sheet, 1, finished(1), cells, COBALNIS_ROWS, &x) == 0);
+    double cells[ROWS], kept[ROWS], x = 7;
+    cobalnis_sheet sheet = example(cells, ROWS);
+    CHECK(cobalnis_sheet_insert(&sheet, 0, FACE, cells, ROWS, &x) == 0);
+    CHECK(cobalnis_sheet_insert(&sheet, 1, finished(1), cells, ROWS, &x) == 0);
     const cobalnis_sheet whole = sheet;
     memcpy(kept, cells, sizeof cells);
     for (size_t i = 0; i < sizeof BAD / sizeof BAD[0]; i++) {
         const cobalnis_part bad = finished(BAD[i]);
-        CHECK(cobalnis_sheet_insert(&sheet, 0, bad, cells, COBALNIS_ROWS, &x) ==
+        CHECK(cobalnis_sheet_insert(&sheet, 0, bad, cells, ROWS, &x) ==
               COBALNIS_HOUSE_INTERVAL);
-        CHECK(cobalnis_sheet_replace(&sheet, 1, bad, cells, COBALNIS_ROWS, &x) ==
+        CHECK(cobalnis_sheet_replace(&sheet, 1, bad, cells, ROWS, &x) ==
               COBALNIS_HOUSE_INTERVAL);
         CHECK(memcmp(&sheet, &whole, sizeof sheet) == 0);
         sheet.part[1].roughness = BAD[i];
         const cobalnis_sheet broken = sheet;
-        CHECK(cobalnis_sheet_remove(&sheet, 1, cells, COBALNIS_ROWS, &x) ==
+        CHECK(cobalnis_sheet_remove(&sheet, 1, cells, ROWS, &x) ==
               COBALNIS_HOUSE_INTERVAL);
-        CHECK(cobalnis_sheet_set_column(&sheet, 0, 1, 1, cells, COBALNIS_ROWS, &x) ==
+        CHECK(cobalnis_sheet_set_column(&sheet, 0, 1, 1, cells, ROWS, &x) ==
               COBALNIS_HOUSE_INTERVAL);
         CHECK(memcmp(&sheet, &broken, sizeof sheet) == 0);
         CHECK(memcmp(cells, kept, sizeof cells) == 0);
@@ -172,13 +177,14 @@ static void own_roughness_refused(void)
     }
 }
 
-enum { PAIR = 2, PAIR_CELLS = COBALNIS_ROWS * PAIR };
+enum { PAIR = 2, PAIR_CELLS = ROWS * PAIR };
 
 /* A flat face of diameter 1 and a boattail down to 0.5, at rest and at Mach 1. */
 static cobalnis_sheet boattailed(double *cells)
 {
-    cobalnis_sheet sheet = {.reference_diameter = 1, .body_fineness = 10, .columns = PAIR,
-                            .mach = {0, 1}, .reynolds = {1e6, 3e6}, .nozzle_diameter = NAN};
+    cobalnis_sheet sheet = {.reference_diameter = 1, .finishes = 1, .body_fineness = 10,
+                            .columns = PAIR, .mach = {0, 1}, .reynolds = {1e6, 3e6},
+                            .nozzle_diameter = NAN};
     const cobalnis_part tail = {.length = 1, .aft_diameter = 0.5, .wetted_ratio = 2};
     CHECK(cobalnis_sheet_open(&sheet, cells, PAIR_CELLS, NULL) == 0);
     CHECK(cobalnis_bits(sheet.nozzle_diameter) == 0);
@@ -192,13 +198,13 @@ static cobalnis_sheet boattailed(double *cells)
 static void has_base(const double *cells, const double *before, double area)
 {
     static const double DRAG[PAIR] = {0.12, 0.25};
-    CHECK(memcmp(cells, before, COBALNIS_BASE * PAIR * sizeof *cells) == 0);
+    CHECK(memcmp(cells, before, BASE * PAIR * sizeof *cells) == 0);
     for (size_t i = 0; i < PAIR; i++) {
         double total = 0;
-        for (size_t row = 0; row < COBALNIS_TOTAL; row++)
+        for (size_t row = 0; row < TOTAL; row++)
             total += cells[row * PAIR + i];
-        CHECK(cobalnis_bits(cells[COBALNIS_BASE * PAIR + i]) == cobalnis_bits(DRAG[i] * area));
-        CHECK(cells[COBALNIS_TOTAL * PAIR + i] == total);
+        CHECK(cobalnis_bits(cells[BASE * PAIR + i]) == cobalnis_bits(DRAG[i] * area));
+        CHECK(cells[TOTAL * PAIR + i] == total);
     }
 }
 
@@ -225,7 +231,7 @@ static void burning(void)
 
     /* The cells that are there are added, whoever wrote them. */
     cells[7 * PAIR] = coasting[7 * PAIR] = 3;
-    cells[COBALNIS_FRICTION * PAIR + 1] = coasting[COBALNIS_FRICTION * PAIR + 1] = -2;
+    cells[FRICTION * PAIR + 1] = coasting[FRICTION * PAIR + 1] = -2;
     CHECK(cobalnis_sheet_ignite(&sheet, 0.25, cells, PAIR_CELLS, &x) == 0);
     has_base(cells, coasting, 0.1875);
 }
@@ -289,28 +295,28 @@ static void burning_refused(void)
 /* The words' functions themselves, which the typed ones pass on to. */
 static void raw_sheet(void)
 {
-    double cells[COBALNIS_ROWS];
+    double cells[ROWS];
     uint64_t words[COBALNIS_SHEET_WORDS] = {0}, part[COBALNIS_PART_WORDS] = {0}, bits = 7;
     size_t next = 7;
-    CHECK(cobalnis_open(words, cells, COBALNIS_ROWS, &bits) == COBALNIS_HOUSE_INTERVAL);
+    CHECK(cobalnis_open(words, cells, ROWS, &bits) == COBALNIS_HOUSE_INTERVAL);
     CHECK(cobalnis_read_settings(CARDS, sizeof CARDS, 0, words, &next) == 0 && next == 34);
-    CHECK(cobalnis_open(words, cells, COBALNIS_ROWS, &bits) == 0);
+    CHECK(cobalnis_open(words, cells, ROWS, &bits) == 0);
     CHECK(cobalnis_read_part(CARDS, sizeof CARDS, next, part, &next) == 0 && next == 43);
-    CHECK(cobalnis_insert(words, 0, part, cells, COBALNIS_ROWS, &bits) == 0);
+    CHECK(cobalnis_insert(words, 0, part, cells, ROWS, &bits) == 0);
     CHECK(words[COBALNIS_PARTS_AT] == 1);
-    CHECK(cobalnis_ignite(words, 1, cells, COBALNIS_ROWS, &bits) == 0);
+    CHECK(cobalnis_ignite(words, 1, cells, ROWS, &bits) == 0);
     CHECK(words[COBALNIS_NOZZLE_AT] == cobalnis_bits(1));
-    CHECK(cobalnis_ignite(words, 101, cells, COBALNIS_ROWS, &bits) == COBALNIS_HOUSE_INTERVAL);
-    CHECK(cobalnis_burnout(words, cells, COBALNIS_ROWS, &bits) == 0);
+    CHECK(cobalnis_ignite(words, 101, cells, ROWS, &bits) == COBALNIS_HOUSE_INTERVAL);
+    CHECK(cobalnis_burnout(words, cells, ROWS, &bits) == 0);
     CHECK(words[COBALNIS_NOZZLE_AT] == 0);
-    CHECK(cobalnis_replace(words, 0, part, cells, COBALNIS_ROWS, &bits) == 0);
-    CHECK(cobalnis_set_column(words, 0, 0, 0, cells, COBALNIS_ROWS, &bits) == 0);
-    CHECK(cobalnis_remove(words, 0, cells, COBALNIS_ROWS, &bits) == 0);
+    CHECK(cobalnis_replace(words, 0, part, cells, ROWS, &bits) == 0);
+    CHECK(cobalnis_set_column(words, 0, 0, 0, cells, ROWS, &bits) == 0);
+    CHECK(cobalnis_remove(words, 0, cells, ROWS, &bits) == 0);
     CHECK(words[COBALNIS_PARTS_AT] == 0);
-    CHECK(cobalnis_insert(words, 1, part, cells, COBALNIS_ROWS, &bits) == COBALNIS_NO_PLACE);
-    CHECK(cobalnis_replace(words, 0, part, cells, COBALNIS_ROWS, &bits) == COBALNIS_NO_PLACE);
-    CHECK(cobalnis_remove(words, 0, cells, COBALNIS_ROWS, &bits) == COBALNIS_NO_PLACE);
-    CHECK(cobalnis_set_column(words, 0, NAN, 0, cells, COBALNIS_ROWS, &bits) ==
+    CHECK(cobalnis_insert(words, 1, part, cells, ROWS, &bits) == COBALNIS_NO_PLACE);
+    CHECK(cobalnis_replace(words, 0, part, cells, ROWS, &bits) == COBALNIS_NO_PLACE);
+    CHECK(cobalnis_remove(words, 0, cells, ROWS, &bits) == COBALNIS_NO_PLACE);
+    CHECK(cobalnis_set_column(words, 0, NAN, 0, cells, ROWS, &bits) ==
           DOMAIN_OF(COBALNIS_MACH));
     CHECK(bits == SHOWN_NAN);
 }

@@ -5,21 +5,33 @@ mod common;
 
 use cobalnis::formulas::skin_friction_coefficient;
 use cobalnis::words::{self, FIRST_PART, PARTS_AT, PART_WORDS};
-use cobalnis::{print, Column, Part, Quantity, Settings, Shape, Sheet, COLUMNS, PLACES, ROWS};
+use cobalnis::{print, rows, Column, Part, Quantity, Settings, Shape, Sheet, COLUMNS, PLACES};
 
 use common::{domain, refusal, stream, INFINITY, NAN};
+
+/// The rows of a sheet of one finish.
+const ROWS: usize = rows(1);
 
 /// The settings of docs/REFERENCE.md, Example: D and B of 1, one column at rest.
 fn settings() -> Settings {
     Settings {
         reference_diameter: 1.0,
-        roughness: 0.0,
+        roughnesses: vec![0.0],
         body_fineness: 1.0,
         columns: vec![Column {
             mach: 0.0,
             reynolds: 0.0,
         }],
     }
+}
+
+/// The first cells of the one finish's rows.
+fn friction(sheet: &Sheet) -> f64 {
+    sheet.friction(0).unwrap()[0]
+}
+
+fn total(sheet: &Sheet) -> f64 {
+    sheet.total(0).unwrap()[0]
 }
 
 /// The part of docs/REFERENCE.md, Example: a flat face of diameter 1.
@@ -41,9 +53,13 @@ fn the_papers_sheet() {
     sheet.push(&FACE).unwrap();
     assert_eq!(sheet.part(0), Some(FACE));
     assert_eq!(sheet.part_row(0), Some(&[0.85][..]));
-    assert_eq!(sheet.friction(), [0.0]);
+    assert_eq!(sheet.friction(0), Some(&[0.0][..]));
+    assert_eq!(
+        (sheet.finish_count(), sheet.friction(1), sheet.total(1)),
+        (1, None, None)
+    );
     assert_eq!(sheet.base(), [0.12]);
-    assert_eq!(sheet.total()[0].to_bits(), 0x3fef_0a3d_70a3_d70a);
+    assert_eq!(total(&sheet).to_bits(), 0x3fef_0a3d_70a3_d70a);
     assert_eq!(sheet.cells()[ROWS], -3.0);
     assert_eq!(sheet.settings(), settings());
     assert_eq!(sheet.words()[PARTS_AT], 1);
@@ -127,11 +143,11 @@ fn nan_cells_have_the_papers_bits() {
     let mut cells = [-f64::NAN; ROWS + 1];
     let past = cells[ROWS].to_bits();
     let mut sheet = Sheet::open(&settings, &mut cells).expect("a fineness above 0 is taken");
-    assert_eq!(sheet.friction()[0].to_bits(), 0);
+    assert_eq!(friction(&sheet).to_bits(), 0);
     assert_eq!(sheet.base()[0].to_bits(), 0);
     sheet.push(&FACE).unwrap();
-    assert_eq!(sheet.friction()[0].to_bits(), 0x7ff8_0000_0000_0000);
-    assert_eq!(sheet.total()[0].to_bits(), 0x7ff8_0000_0000_0000);
+    assert_eq!(friction(&sheet).to_bits(), 0x7ff8_0000_0000_0000);
+    assert_eq!(total(&sheet).to_bits(), 0x7ff8_0000_0000_0000);
     assert_eq!(sheet.cells()[ROWS].to_bits(), past);
 }
 
@@ -149,7 +165,7 @@ fn finished(roughness: Option<f64>) -> Part {
 #[test]
 fn roughness_of_its_own() {
     let settings = Settings {
-        roughness: 1e-2,
+        roughnesses: vec![1e-2],
         ..settings()
     };
     let mut cells = [0.0; ROWS];
@@ -167,11 +183,11 @@ fn roughness_of_its_own() {
     sheet.push(&nose).unwrap();
     sheet.push(&tube).unwrap();
     assert_eq!((sheet.part(0), sheet.part(1)), (Some(nose), Some(tube)));
-    assert_eq!(sheet.friction(), [added(1e-6) + added(1e-3)]);
+    assert_eq!(friction(&sheet), added(1e-6) + added(1e-3));
     sheet.replace(1, &finished(None)).unwrap();
     assert_eq!(sheet.part(1), Some(finished(None)));
     assert_eq!(sheet.words()[FIRST_PART + PART_WORDS + 6..][..2], [0, 0]);
-    assert_eq!(sheet.friction(), [added(1e-6) + added(1e-2)]);
+    assert_eq!(friction(&sheet), added(1e-6) + added(1e-2));
     for end in [0.0, -0.0, 1.0] {
         sheet.replace(0, &finished(Some(end))).unwrap();
         let back = sheet.part(0).and_then(|part| part.roughness);
@@ -309,7 +325,7 @@ fn nothing_to_print() {
     }
 }
 
-/// The longest text there is: 16 parts and 32 columns.
+/// The longest text of one finish: 16 parts and 32 columns.
 #[test]
 fn longest_print() {
     let one = 1.0f64.to_le_bytes();

@@ -94,7 +94,7 @@ fn watch(slots: &[Running], done: &AtomicBool) {
 struct Counts {
     streams: u64,
     /// By the model's refusal number, 0 accepted.
-    by_number: [u64; 12],
+    by_number: [u64; 20],
     disagreed: u64,
     shown: Vec<String>,
 }
@@ -157,7 +157,10 @@ fn main() -> ExitCode {
     println!("streams {}", counts.streams);
     println!("accepted {}", counts.by_number[0]);
     for (number, count) in counts.by_number.iter().enumerate().skip(1) {
-        println!("refused {number}: {count}");
+        // 12 to 18 are no refusals of cards.
+        if number <= 11 || *count > 0 {
+            println!("refused {number}: {count}");
+        }
     }
     println!("disagreed {}", counts.disagreed);
     for text in &counts.shown {

@@ -1,8 +1,8 @@
 //! The rows of the model: each cell by its formula (docs/REFERENCE.md, Sheet), and what a call
 //! writes.
 
+use super::{base_row, total_row, FRICTION, PLACES};
 use super::{of_error, Column, Design, Part, Refusal, Settings, Sheet};
-use super::{BASE, FRICTION, PLACES, TOTAL};
 use crate::original_fixed::{
     base_drag_coefficient, boattail_factor, body_friction_form_factor, skin_friction_coefficient,
     PressureDragCurve,
@@ -47,15 +47,16 @@ fn place_row(
     }
 }
 
-/// "A sum by place from +0 of (skin friction at that part's roughness × form factor) × w." What is
-/// to be multiplied with w at the settings' roughness is worked out once.
-fn friction(settings: &Settings, design: &Design, column: Column) -> f64 {
+/// "A sum by place from +0 of (skin friction at that part's roughness × form factor) × w", a part's
+/// own roughness holding in every finish. What is to be multiplied with w at the finish's roughness
+/// is worked out once.
+fn friction(settings: &Settings, design: &Design, finish: usize, column: Column) -> f64 {
     let form = body_friction_form_factor(settings.body_fineness).expect("tested");
     let at = |roughness: f64| {
         let skin = skin_friction_coefficient(column.reynolds, roughness, column.mach);
         skin.expect("tested") * form
     };
-    let of_settings = at(settings.roughness);
+    let of_settings = at(settings.roughnesses[finish]);
     let mut sum = 0.0;
     for part in design.parts() {
         sum += part.roughness.map_or(of_settings, at) * part.wetted_ratio;
@@ -77,19 +78,27 @@ fn base(sheet: &Sheet, column: Column) -> f64 {
     base_drag_coefficient(column.mach).expect("tested") * area
 }
 
-/// Writes base and total at a column; the total adds the cells that are there.
+/// Writes base and totals at a column; a total adds the cells that are there, its finish's friction
+/// between the part rows and the base.
 fn finish_column(sheet: &Sheet, column: usize, cells: &mut [f64]) {
-    let count = sheet.settings.count;
-    cells[BASE * count + column] = base(sheet, sheet.settings.columns[column]);
-    let mut total = 0.0;
-    for row in 0..TOTAL {
-        total += cells[row * count + column];
+    let Settings {
+        finishes, count, ..
+    } = sheet.settings;
+    let base_row = base_row(finishes);
+    cells[base_row * count + column] = base(sheet, sheet.settings.columns[column]);
+    for finish in 0..finishes {
+        let mut total = 0.0;
+        for row in 0..PLACES {
+            total += cells[row * count + column];
+        }
+        total += cells[(FRICTION + finish) * count + column];
+        total += cells[base_row * count + column];
+        cells[(total_row(finishes) + finish) * count + column] = total;
     }
-    cells[TOTAL * count + column] = total;
 }
 
 /// Tries these places at these columns, lowest place first, and only then writes them with
-/// friction, base and total.
+/// frictions, base and totals.
 pub fn write(sheet: &Sheet, places: &[usize], columns: &[usize], cells: &mut [f64]) -> Answer {
     let (settings, design) = (&sheet.settings, &sheet.design);
     let at: Vec<Column> = columns.iter().map(|&i| settings.columns[i]).collect();
@@ -107,7 +116,10 @@ pub fn write(sheet: &Sheet, places: &[usize], columns: &[usize], cells: &mut [f6
     }
     for &column in columns {
         let at = settings.columns[column];
-        cells[FRICTION * settings.count + column] = friction(settings, design, at);
+        for finish in 0..settings.finishes {
+            let row = FRICTION + finish;
+            cells[row * settings.count + column] = friction(settings, design, finish, at);
+        }
         finish_column(sheet, column, cells);
     }
     Answer::accepted(0)
@@ -119,7 +131,7 @@ pub fn write_all(sheet: &Sheet, cells: &mut [f64]) -> Answer {
     write(sheet, &places, &columns, cells)
 }
 
-/// Writes base and total at every column, and no other row.
+/// Writes base and totals at every column, and no other row.
 pub fn write_base(sheet: &Sheet, cells: &mut [f64]) {
     for column in 0..sheet.settings.count {
         finish_column(sheet, column, cells);

@@ -2,18 +2,18 @@
 //! on purpose, too few cells, foreign cells.
 
 use cobalnis::words::{
-    self, PartWords, SheetWords, FIRST_PART, MACHS_AT, NOZZLE_AT, PARTS_AT, PART_WORDS,
-    REYNOLDS_AT, SHEET_WORDS,
+    self, PartWords, SheetWords, COLUMNS_AT, FINENESS_AT, FINISHES_AT, FIRST_PART, MACHS_AT,
+    NOZZLE_AT, PARTS_AT, PART_WORDS, REYNOLDS_AT, ROUGHNESSES_AT, SHEET_WORDS,
 };
 
 use super::tally::Row;
 use crate::arguments::Arguments;
 use crate::inputs::NANS;
 use crate::mirror;
-use crate::model::{COLUMNS, PLACES, ROWS};
+use crate::model::{rows, COLUMNS, FINISHES, PLACES};
 use crate::{answer_bits, model::Part};
 
-const BUFFER: usize = ROWS * COLUMNS + 8;
+const BUFFER: usize = rows(FINISHES) * COLUMNS + 8;
 
 /// The calls, as a row counts them.
 const CALLS: [&str; 7] = [
@@ -111,11 +111,17 @@ fn words_of(part: &Part) -> PartWords {
     mirror::part_words(part, f64::to_bits)
 }
 
-/// What a sheet's words say: those of columns and parts past the counts are nobody's.
+/// The number of finishes, as far as there is room.
+fn finishes_of(words: &SheetWords) -> usize {
+    (words[FINISHES_AT] as usize).min(FINISHES)
+}
+
+/// What a sheet's words say: those of finishes, columns and parts past the counts are nobody's.
 fn said(words: &SheetWords) -> Vec<u64> {
-    let columns = (words[3] as usize).min(COLUMNS);
+    let columns = (words[COLUMNS_AT] as usize).min(COLUMNS);
     let parts = (words[PARTS_AT] as usize).min(PLACES);
-    let mut list = words[..MACHS_AT + columns].to_vec();
+    let mut list = words[..ROUGHNESSES_AT + finishes_of(words)].to_vec();
+    list.extend(&words[FINENESS_AT..MACHS_AT + columns]);
     list.extend(&words[REYNOLDS_AT..REYNOLDS_AT + columns]);
     list.extend(&words[NOZZLE_AT..FIRST_PART + PART_WORDS * parts]);
     list
@@ -165,6 +171,7 @@ impl Play {
             row.note_part(&part);
         }
         if model.0 == 0 {
+            row.note_finishes(finishes_of(&theirs));
             row.note_nozzle(f64::from_bits(theirs[NOZZLE_AT]), last_d(&theirs));
         }
         if !agree {
@@ -179,7 +186,7 @@ impl Play {
     }
 
     fn columns(&self) -> usize {
-        (self.sheet[3] as usize).min(COLUMNS)
+        (self.sheet[COLUMNS_AT] as usize).min(COLUMNS)
     }
 
     fn parts(&self) -> usize {
@@ -188,7 +195,7 @@ impl Play {
 
     /// Cells enough, or seldom too few.
     fn cell_count(&mut self) -> usize {
-        let enough = ROWS * self.columns();
+        let enough = rows(finishes_of(&self.sheet)) * self.columns();
         match self.args.below(60) {
             0 => enough.saturating_sub(1),
             1 => self.args.below(enough + 1),
@@ -221,22 +228,8 @@ impl Play {
             _ => self.args.below(5),
         };
         let bad = if self.args.one_in(8) { 4 } else { u64::MAX };
-        let sizes = [
-            self.args.house(0.001, 100.0, 1.0, bad),
-            self.args.house(0.0, 1.0, 1e-4, bad),
-            match self.args.below(12) {
-                0 => self.args.random.any(),
-                1 => self
-                    .args
-                    .random
-                    .pick(&[0.0, -0.0, NANS[5], f64::INFINITY, -1.0]),
-                _ => self.args.random.between(0.5, 30.0),
-            },
-        ];
-        for (word, x) in self.sheet.iter_mut().zip(sizes) {
-            *word = x.to_bits();
-        }
-        self.sheet[3] = match self.args.below(100) {
+        self.body(bad);
+        self.sheet[COLUMNS_AT] = match self.args.below(100) {
             0 => 33,
             1 => self.args.random.bits(),
             _ => columns as u64,
@@ -251,6 +244,32 @@ impl Play {
         }
         let cell_count = self.cell_count();
         self.call(Call::Open, cell_count);
+    }
+
+    /// D, the finishes and B, refused one time in `bad` each.
+    fn body(&mut self, bad: u64) {
+        self.sheet[0] = self.args.house(0.001, 100.0, 1.0, bad).to_bits();
+        let b = match self.args.below(12) {
+            0 => self.args.random.any(),
+            1 => self
+                .args
+                .random
+                .pick(&[0.0, -0.0, NANS[5], f64::INFINITY, -1.0]),
+            _ => self.args.random.between(0.5, 30.0),
+        };
+        self.sheet[FINENESS_AT] = b.to_bits();
+        self.sheet[FINISHES_AT] = self.args.a_finish_count(bad) as u64;
+        self.roughnesses(bad.saturating_mul(FINISHES as u64));
+    }
+
+    /// All four roughnesses, of which those past the finishes may be anything.
+    fn roughnesses(&mut self, bad: u64) {
+        for at in 0..FINISHES {
+            let [roughness, ..] = self.args.roughnesses(bad);
+            let counts = at < finishes_of(&self.sheet) || self.args.one_in(2);
+            let any = self.args.random.bits();
+            self.sheet[ROUGHNESSES_AT + at] = if counts { roughness.to_bits() } else { any };
+        }
     }
 
     /// A part's words; the shape's number is none of the six seldom. That it has a roughness of its
@@ -306,11 +325,14 @@ impl Play {
             let any = self.args.random.bits();
             let columns = self.columns().max(1);
             let place = FIRST_PART + PART_WORDS * self.args.below(self.parts().max(1));
-            match self.args.below(14) {
+            match self.args.below(16) {
                 0 => self.sheet[self.args.below(SHEET_WORDS)] = any,
-                1 => self.sheet[3] = [33, 32, any, 1 << 63, u64::MAX][self.args.below(5)],
+                1 => self.sheet[COLUMNS_AT] = [33, 32, any, 1 << 63, u64::MAX][self.args.below(5)],
                 2 => self.sheet[PARTS_AT] = [17, 16, any, 1 << 63, u64::MAX][self.args.below(5)],
-                3 => self.sheet[self.args.below(3)] = NANS[self.args.below(8)].to_bits(),
+                3 => {
+                    let at = [0, FINENESS_AT][self.args.below(2)];
+                    self.sheet[at] = NANS[self.args.below(8)].to_bits();
+                }
                 4 => {
                     let column = self.args.a_column(2);
                     let at = self.args.below(columns);
@@ -332,6 +354,9 @@ impl Play {
                 8 => self.sheet[place + 6] = [0, 1, any, self.not_one()][self.args.below(4)],
                 // A nozzle outside its interval, or one that no call gave.
                 9 | 10 => self.sheet[NOZZLE_AT] = self.nozzle(2).to_bits(),
+                // Another number of finishes, or other roughnesses.
+                11 => self.sheet[FINISHES_AT] = self.args.a_finish_count(2) as u64,
+                12 => self.roughnesses(4),
                 _ => {
                     let part = words_of(&self.args.a_part(3, 3));
                     self.sheet[place..place + PART_WORDS].copy_from_slice(&part);

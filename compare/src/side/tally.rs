@@ -4,6 +4,7 @@ use cobalnis::words::PartWords;
 
 use crate::distance;
 use crate::mirror::NO_SUCH;
+use crate::model::FINISHES;
 use crate::refusals::Answer;
 
 /// How many inputs that disagree are printed.
@@ -23,6 +24,8 @@ pub struct Row {
     own: u64,
     /// Accepted calls after which a nozzle burns that is narrower than the base, as wide, wider.
     burning: [u64; 3],
+    /// Accepted calls that left a sheet of one finish, of two, and so on.
+    finishes: [u64; FINISHES],
     pub disagreements: u64,
     shown: Vec<String>,
     plain: Option<Plain>,
@@ -76,6 +79,16 @@ impl Row {
         if n > 0.0 {
             self.burning[usize::from(n >= d) + usize::from(n > d)] += 1;
         }
+    }
+
+    /// The number of finishes after an accepted call.
+    pub fn note_finishes(&mut self, finishes: usize) {
+        self.finishes[finishes - 1] += 1;
+    }
+
+    /// How many accepted calls left a sheet of one finish, of two, and so on.
+    pub fn finishes(&self) -> [u64; FINISHES] {
+        self.finishes
     }
 
     /// After how many accepted calls a nozzle burns that is narrower than the base, as wide, wider.
@@ -203,6 +216,15 @@ pub fn print_burning(rows: &[Row]) {
         let [below, at, above] = row.burning;
         let (name, all) = (&row.name, row.seen(0));
         println!("{name}: of {all} accepted {below} with n below d, {at} at d, {above} above d");
+    }
+}
+
+/// How many finishes the sheets of accepted calls had.
+pub fn print_finishes(rows: &[Row]) {
+    for row in rows.iter().filter(|row| row.finishes() != [0; FINISHES]) {
+        let [one, two, three, four] = row.finishes();
+        let (name, all) = (&row.name, row.seen(0));
+        println!("{name}: of {all} accepted {one}, {two}, {three}, {four} with 1 to 4 finishes");
     }
 }
 

@@ -2,7 +2,7 @@
 //! nozzle held that no call would hand back.
 
 use compare::inputs::{around, NANS, TINY};
-use compare::model::{Column, Part, NO_PART, ROWS};
+use compare::model::{Column, Part, NO_PART};
 use compare::refusals::Answer;
 
 use crate::Play;
@@ -51,7 +51,7 @@ impl Play {
     }
 
     /// Ignited before there is a base; parts come to it, narrower, as wide and wider.
-    fn before_the_first_part(&mut self, columns: usize) {
+    pub fn before_the_first_part(&mut self, columns: usize) {
         self.opened(columns);
         for n in [0.0, -0.0, TINY, 100.0, 0.05] {
             accepted(self.ignite(n));
@@ -63,7 +63,7 @@ impl Play {
     }
 
     /// Ignited and burnt out between edits, twice each.
-    fn in_mid_list(&mut self, columns: usize) {
+    pub fn in_mid_list(&mut self, columns: usize) {
         self.opened(columns);
         self.every_edit();
         for n in [0.25, 0.4] {
@@ -77,7 +77,7 @@ impl Play {
     }
 
     /// Every edit, of the last part and of another, and a column set where there is one.
-    fn every_edit(&mut self) {
+    pub fn every_edit(&mut self) {
         let last = self.sheet.design.count + 1;
         let column = self.set_column(0, COLUMN).refusal;
         assert_eq!(column == 8, self.sheet.settings.count == 0);
@@ -108,7 +108,7 @@ impl Play {
     }
 
     /// The last part taken away until none is left, burning; then coasting, and burning again.
-    fn down_to_none(&mut self, columns: usize) {
+    pub fn down_to_none(&mut self, columns: usize) {
         self.opened(columns);
         for (place, d) in [0.2, 0.3, 0.1, 0.05].into_iter().enumerate() {
             accepted(self.insert(place, part(d)));
@@ -124,7 +124,7 @@ impl Play {
     }
 
     /// A refused ignite keeps the nozzle that burns, and the edits after it have it.
-    fn refused_while_burning(&mut self, columns: usize) {
+    pub fn refused_while_burning(&mut self, columns: usize) {
         self.opened(columns);
         accepted(self.insert(0, part(0.1)));
         accepted(self.ignite(0.05));
@@ -152,7 +152,7 @@ impl Play {
             self.parts(17);
             self.all_refused(11);
             if columns > 0 {
-                self.lend(ROWS * columns - 1);
+                self.lend(self.sheet.settings.cells() - 1);
                 self.all_refused(10);
                 self.lend(enough);
             }
@@ -173,7 +173,7 @@ impl Play {
     }
 
     /// Each kind of call but open, all refused with this number, whatever else is wrong.
-    fn all_refused(&mut self, number: u8) {
+    pub fn all_refused(&mut self, number: u8) {
         let answers = [
             self.insert(99, part(0.1)),
             self.replace(99, part(0.1)),

@@ -1,15 +1,22 @@
 //! A line each: the changes by hand and the calls.
 
-use cobalnis::words::{FIRST_PART, MACHS_AT, NOZZLE_AT, PARTS_AT, PART_WORDS, REYNOLDS_AT};
+use cobalnis::words::PART_WORDS;
 use compare::mirror::part_words;
 use compare::model::{burnout, ignite, insert, open, remove, replace, set_column};
-use compare::model::{Column, Part, Sheet};
+use compare::model::{Column, Part, Sheet, COLUMNS, FINISHES};
 use compare::refusals::Answer;
 
 use crate::Play;
 
 /// So many words of a part have room in a line beside two others.
 const ROOM: usize = 6;
+
+/// Where a `w` line's words lie: D, roughness, B and the number of columns come first.
+const MACHS_AT: usize = 4;
+const REYNOLDS_AT: usize = MACHS_AT + COLUMNS;
+const NOZZLE_AT: usize = REYNOLDS_AT + COLUMNS;
+const PARTS_AT: usize = NOZZLE_AT + 1;
+const FIRST_PART: usize = PARTS_AT + 1;
 
 impl Play {
     // ---- changes by hand
@@ -21,16 +28,26 @@ impl Play {
         self.line('w', &args, Answer::accepted(0));
     }
 
+    /// The settings with the first finish's roughness.
     pub fn settings(&mut self, d: f64, roughness: f64, b: f64, count: usize) {
         let settings = &mut self.sheet.settings;
         settings.reference_diameter = d;
-        settings.roughness = roughness;
+        settings.roughnesses[0] = roughness;
         settings.body_fineness = b;
         settings.count = count;
         self.words(
             0,
             &[d.to_bits(), roughness.to_bits(), b.to_bits(), count as u64],
         );
+    }
+
+    /// How many finishes, and all roughnesses that there is room for.
+    pub fn finishes(&mut self, finishes: usize, roughnesses: [f64; FINISHES]) {
+        self.sheet.settings.finishes = finishes;
+        self.sheet.settings.roughnesses = roughnesses;
+        let mut args = vec![finishes as u64];
+        args.extend(roughnesses.map(f64::to_bits));
+        self.line('e', &args, Answer::accepted(0));
     }
 
     pub fn column(&mut self, at: usize, column: Column) {
@@ -111,6 +128,7 @@ impl Play {
         if answer.refusal == 0 {
             self.sheet = sheet;
             self.burning += usize::from(sheet.nozzle_diameter > 0.0);
+            self.several += usize::from(sheet.settings.finishes > 1);
         }
         self.calls += 1;
         self.line(tag, args, answer);

@@ -3,7 +3,7 @@
 
 use compare::cards::shape_of;
 use compare::inputs::{specials, NANS};
-use compare::model::{Column, Part, COLUMNS, NO_PART, PLACES, ROWS};
+use compare::model::{rows, Column, Part, COLUMNS, NO_PART, PLACES};
 use compare::original_fixed::NoseShape;
 
 use crate::Play;
@@ -31,7 +31,7 @@ impl Play {
                 _ => count,
             };
             self.settings(d, roughness, b, count);
-            let enough = ROWS * count.min(COLUMNS);
+            let enough = rows(1) * count.min(COLUMNS);
             let cell_count = match self.args.below(4) {
                 0 => enough.saturating_sub(1),
                 1 => self.args.below(enough + 1),

@@ -2,9 +2,9 @@
 
 use compare::inputs::NANS;
 use compare::mirror::part_words;
-use compare::model::{Part, Sheet, PLACES, ROWS};
+use compare::model::{Part, Sheet, PLACES};
 
-use crate::{Play, BUFFER};
+use crate::Play;
 
 impl Play {
     /// Foreign values in all cells: one number everywhere, NaN, or many different ones.
@@ -23,6 +23,10 @@ impl Play {
     /// A sheet of so many columns, opened and accepted.
     pub fn opened(&mut self, count: usize) {
         self.foreign();
+        if let Some(finishes) = self.finishes {
+            let roughnesses = self.args.roughnesses(u64::MAX);
+            self.finishes(finishes, roughnesses);
+        }
         for at in 0..count {
             let column = self.args.a_column(u64::MAX);
             self.column(at, column);
@@ -34,10 +38,11 @@ impl Play {
             _ => self.args.random.between(1.0, 30.0),
         };
         self.settings(d, roughness, b, count);
+        let (enough, room) = (self.sheet.settings.cells(), self.room());
         let cell_count = match self.args.below(3) {
-            0 => BUFFER,
-            1 => ROWS * count,
-            _ => ROWS * count + self.args.below(BUFFER - ROWS * count + 1),
+            0 => room,
+            1 => enough,
+            _ => enough + self.args.below(room - enough + 1),
         };
         self.lend(cell_count);
         assert_eq!(self.open().refusal, 0);
@@ -126,6 +131,10 @@ impl Play {
     /// One thing of the sheet out of range.
     fn break_one(&mut self, whole: &Sheet) {
         let count = whole.settings.count;
+        if self.finishes.is_some() && self.args.one_in(4) {
+            let (finishes, roughnesses) = (self.args.a_finish_count(3), self.args.roughnesses(4));
+            return self.finishes(finishes, roughnesses);
+        }
         match self.args.below(9) {
             0 => {
                 let d = self.args.house(0.001, 100.0, 1.0, 2);
@@ -140,7 +149,7 @@ impl Play {
                 self.column(at, column);
             }
             2 if count > 0 => {
-                let short = self.args.below(ROWS * count);
+                let short = self.args.below(whole.settings.cells());
                 self.lend(short);
             }
             3 => self.many_parts(whole.design.count),
@@ -176,7 +185,14 @@ impl Play {
     /// Back to the whole sheet, so that the list goes on.
     fn mend(&mut self, whole: &Sheet) {
         let s = whole.settings;
-        self.settings(s.reference_diameter, s.roughness, s.body_fineness, s.count);
+        let is = self.sheet.settings;
+        let same = is.roughnesses[1..].iter().map(|x| x.to_bits());
+        let same = same.eq(s.roughnesses[1..].iter().map(|x| x.to_bits()));
+        if is.finishes != s.finishes || !same {
+            self.finishes(s.finishes, s.roughnesses);
+        }
+        let [roughness, ..] = s.roughnesses;
+        self.settings(s.reference_diameter, roughness, s.body_fineness, s.count);
         for at in 0..s.count {
             let (is, was) = (self.sheet.settings.columns[at], s.columns[at]);
             let same = is.mach.to_bits() == was.mach.to_bits();
@@ -204,7 +220,7 @@ impl Play {
         self.opened(columns);
         for _ in 0..calls {
             if self.args.one_in(25) && columns > 0 {
-                let at = self.args.below(ROWS * columns);
+                let at = self.args.below(self.sheet.settings.cells());
                 let list = [NANS[2], 1.0, -0.0, f64::INFINITY, -3.5, 1e308];
                 let value = self.args.random.pick(&list);
                 self.poke(at, value);
@@ -213,8 +229,8 @@ impl Play {
                 self.broken_sheet();
             }
             self.any_call(bad, odd);
-            if self.cell_count < ROWS * self.sheet.settings.count {
-                self.lend(ROWS * self.sheet.settings.count);
+            if self.cell_count < self.sheet.settings.cells() {
+                self.lend(self.sheet.settings.cells());
             }
         }
     }

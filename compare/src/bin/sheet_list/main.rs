@@ -9,21 +9,25 @@
 //! crates/sheet_vectors/src/main.rt.
 //!
 //! The state is a sheet's words and a buffer of cells, one row more than the
-//! largest sheet has, all zeros before the first line. A call
+//! largest sheet has, all zeros before the first line but for one finish. A call
 //! takes the words and the first so many cells of the buffer. Lines that change the state by hand are
 //! accepted always, so that a call meets any sheet and any cells. A line has no room for all words of
-//! a part: the last two, its roughness, are those of the last `k` line before, at first zeros.
+//! a part: the last two, its roughness, are those of the last `k` line before, at first zeros. A `w`
+//! line has its words where a sheet of one finish alone would: D, its roughness, B, the number of
+//! columns, Machs and so on; the other finishes have the `e` line.
 //!
 //! The state's number h is made of 64-bit words x, one after the other, from h = 0xcbf29ce484222325:
 //! h is h xor x, turned left by 23 bits, times 0x100000001b3 without carry out of 64 bits. The
-//! words: D, roughness, B, the count of columns, M and R of each column (32 at most), the nozzle
-//! diameter, the count of parts, each part's eight words (16 parts at most), and all cells of the
-//! buffer. Every NaN is 7ff8000000000000, and a shape without a parameter has zeros for it, as a part
-//! without a roughness of its own has.
+//! words: D, the first roughness, B, the count of columns, M and R of each column (32 at most), the
+//! nozzle diameter, the count of parts, each part's eight words (16 parts at most); where there is one
+//! finish the buffer's first 640 cells; else the count of finishes, each one's roughness (4 at most)
+//! and all cells. Every NaN is 7ff8000000000000, and a shape without a parameter has zeros for it, as
+//! a part without a roughness of its own has.
 
 mod burning;
 mod calls;
 mod cases;
+mod finishes;
 mod lists;
 
 use std::io::{BufWriter, StdoutLock, Write};
@@ -32,11 +36,14 @@ use compare::answer_bits;
 use compare::arguments::Arguments;
 use compare::list::line;
 use compare::mirror::{part_words, status};
-use compare::model::{Column, Design, Part, Settings, Sheet, COLUMNS, NO_PART, PLACES, ROWS};
+use compare::model::{rows, Column, Design, Part, Settings, Sheet};
+use compare::model::{COLUMNS, FINISHES, NO_PART, PLACES};
 use compare::refusals::Answer;
 
-/// Cells of the largest sheet, and a row more.
-const BUFFER: usize = (ROWS + 1) * COLUMNS;
+/// Cells of the largest sheet of so many finishes, and a row more.
+const fn room(finishes: usize) -> usize {
+    (rows(finishes) + 1) * COLUMNS
+}
 
 /// The state's number so far, and one word more.
 fn mixed(h: u64, x: u64) -> u64 {
@@ -52,6 +59,8 @@ struct Play {
     sheet: Sheet,
     cells: Vec<f64>,
     cell_count: usize,
+    /// With how many finishes `opened` opens a sheet; none: one, without a line for it.
+    finishes: Option<usize>,
     /// Words 6 and 7 of the part in `i` and `r` lines.
     given: [u64; 2],
     calls: usize,
@@ -60,17 +69,16 @@ struct Play {
     own: usize,
     /// Accepted calls that left a nozzle above 0.
     burning: usize,
+    /// Accepted calls that left a sheet of more than one finish.
+    several: usize,
 }
 
 impl Play {
     fn number(&self) -> u64 {
         let mut h = 0xcbf2_9ce4_8422_2325;
         let settings = &self.sheet.settings;
-        for x in [
-            settings.reference_diameter,
-            settings.roughness,
-            settings.body_fineness,
-        ] {
+        let [first, ..] = settings.roughnesses;
+        for x in [settings.reference_diameter, first, settings.body_fineness] {
             h = mixed(h, answer_bits(x));
         }
         h = mixed(h, settings.count as u64);
@@ -86,10 +94,23 @@ impl Play {
                 h = mixed(h, word);
             }
         }
-        for &cell in &self.cells {
+        let mut cells = &self.cells[..room(1)];
+        if settings.finishes != 1 {
+            cells = &self.cells;
+            h = mixed(h, settings.finishes as u64);
+            for &roughness in &settings.roughnesses[..settings.finishes.min(FINISHES)] {
+                h = mixed(h, answer_bits(roughness));
+            }
+        }
+        for &cell in cells {
             h = mixed(h, answer_bits(cell));
         }
         h
+    }
+
+    /// The most cells that a list lends.
+    fn room(&self) -> usize {
+        room(self.finishes.map_or(1, |_| FINISHES))
     }
 
     fn line(&mut self, tag: char, args: &[u64], answer: Answer) {
@@ -106,7 +127,8 @@ fn main() {
         sheet: Sheet {
             settings: Settings {
                 reference_diameter: 0.0,
-                roughness: 0.0,
+                finishes: 1,
+                roughnesses: [0.0; FINISHES],
                 body_fineness: 0.0,
                 count: 0,
                 columns: [Column {
@@ -120,17 +142,19 @@ fn main() {
                 parts: [NO_PART; PLACES],
             },
         },
-        cells: vec![0.0; BUFFER],
+        cells: vec![0.0; room(FINISHES)],
         cell_count: 0,
+        finishes: None,
         given: [0; 2],
         calls: 0,
         parts: 0,
         own: 0,
         burning: 0,
+        several: 0,
     };
     // The sheet of docs/REFERENCE.md, Example.
     play.settings(1.0, 0.0, 1.0, 1);
-    play.lend(ROWS);
+    play.lend(rows(1));
     play.open();
     play.insert(
         0,
@@ -160,10 +184,11 @@ fn main() {
     for columns in 0..4 {
         play.full(columns);
     }
+    play.by_finish();
     let (own, parts) = (play.own, play.parts);
     eprintln!(
-        "{} calls, {} left a burning sheet",
-        play.calls, play.burning
+        "{} calls, {} left a burning sheet, {} one of more than one finish",
+        play.calls, play.burning, play.several
     );
     eprintln!("{own} of {parts} parts with a roughness of their own");
     play.out.flush().expect("standard output");

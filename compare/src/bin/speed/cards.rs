@@ -3,7 +3,10 @@
 use std::hint::black_box;
 
 use cobalnis::raw;
-use cobalnis::words::{PartWords, SheetWords, MACHS_AT, PART_WORDS, REYNOLDS_AT, SHEET_WORDS};
+use cobalnis::words::{
+    PartWords, SheetWords, FINENESS_AT, MACHS_AT, PART_WORDS, REYNOLDS_AT, ROUGHNESSES_AT,
+    SHEET_WORDS,
+};
 use compare::inputs::Random;
 use compare::mirror_c as theirs;
 
@@ -38,7 +41,7 @@ fn settings_pass(f: ReadSettings, bytes: &[u8]) -> u64 {
         // SAFETY: as above.
         let status = unsafe { f(bytes.as_ptr(), bytes.len(), at, &mut words, &mut next) };
         assert_eq!(status, 0);
-        sum = sum.wrapping_add(words[2] ^ words[MACHS_AT + 1] ^ words[REYNOLDS_AT + 31]);
+        sum = sum.wrapping_add(words[FINENESS_AT] ^ words[MACHS_AT + 1] ^ words[REYNOLDS_AT + 31]);
         at = next;
     }
     sum
@@ -65,8 +68,8 @@ fn settings_cards(random: &mut Random, count: usize, columns: usize) -> Vec<u8> 
     for _ in 0..count {
         let words = sheet(random, 0, false);
         bytes.push(0b1111);
-        for word in &words[..3] {
-            bytes.extend(word.to_le_bytes());
+        for at in [0, ROUGHNESSES_AT, FINENESS_AT] {
+            bytes.extend(words[at].to_le_bytes());
         }
         bytes.push(columns as u8);
         for column in 0..columns {

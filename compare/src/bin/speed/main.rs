@@ -10,6 +10,7 @@
 mod burning;
 mod cards;
 mod curves;
+mod finishes;
 mod formulas;
 mod sheets;
 mod timing;
@@ -20,6 +21,7 @@ use compare::inputs::Random;
 use burning::ignites_and_burnouts;
 use cards::cards;
 use curves::curves;
+use finishes::four_finishes;
 use formulas::formulas;
 use sheets::{builds, rebuilds, removes, replaces, set_columns};
 use timing::{row, Times};
@@ -39,8 +41,9 @@ const NOTES: &str = "
   roughness once, and for each roughness of a part's own once more.
 - Parts have no roughness of their own where nothing is said of one. Rows with and without differ
   in those numbers alone.
-- Whole build, remove and burnout start from a copied sheet (1584 bytes) on either side.
-- Sheets are coasting where nothing is said of a nozzle.
+- Whole build, remove and burnout start from a copied sheet (1616 bytes) on either side.
+- Sheets are coasting where nothing is said of a nozzle, and have one finish where nothing is said
+  of finishes. Rows of four finishes have the same sheets, with other roughnesses beside the first.
 - The original has no walk; there the other side tests as the port does, asks the original's
   lookup for each Mach, and counts by a plain walk.";
 
@@ -64,5 +67,6 @@ fn main() {
     ignites_and_burnouts();
     cards(&mut random);
     walks(&mut random);
+    four_finishes();
     println!("{NOTES}");
 }

@@ -4,11 +4,12 @@ use std::hint::black_box;
 
 use cobalnis::raw;
 use cobalnis::words::{
-    PartWords, SheetWords, FIRST_PART, MACHS_AT, PARTS_AT, PART_WORDS, REYNOLDS_AT, SHEET_WORDS,
+    PartWords, SheetWords, COLUMNS_AT, FINENESS_AT, FINISHES_AT, FIRST_PART, MACHS_AT, PARTS_AT,
+    PART_WORDS, REYNOLDS_AT, ROUGHNESSES_AT, SHEET_WORDS,
 };
 use compare::inputs::Random;
 use compare::mirror_c as theirs;
-use compare::model::{COLUMNS, PLACES, ROWS};
+use compare::model::{rows, COLUMNS, PLACES};
 
 use crate::curves::parameter;
 use crate::timing::{measure, row, Times};
@@ -39,13 +40,14 @@ pub fn part(random: &mut Random, fore: f64, widens: bool) -> PartWords {
     words
 }
 
-/// A sheet of 32 columns and so many parts.
+/// A sheet of one finish, 32 columns and so many parts.
 pub fn sheet(random: &mut Random, parts: usize, widens: bool) -> SheetWords {
     let mut words = [0; SHEET_WORDS];
     words[0] = 0.1f64.to_bits();
-    words[1] = random.scaled(1e-6, 1e-4).to_bits();
-    words[2] = random.between(8.0, 20.0).to_bits();
-    words[3] = COLUMNS as u64;
+    words[FINISHES_AT] = 1;
+    words[ROUGHNESSES_AT] = random.scaled(1e-6, 1e-4).to_bits();
+    words[FINENESS_AT] = random.between(8.0, 20.0).to_bits();
+    words[COLUMNS_AT] = COLUMNS as u64;
     for column in 0..COLUMNS {
         let mach = 0.1 * (column as f64 + random.unit());
         words[MACHS_AT + column] = mach.to_bits();
@@ -62,7 +64,7 @@ pub fn sheet(random: &mut Random, parts: usize, widens: bool) -> SheetWords {
     words
 }
 
-type Edit = unsafe extern "C" fn(
+pub type Edit = unsafe extern "C" fn(
     *mut SheetWords,
     usize,
     *const PartWords,
@@ -72,19 +74,20 @@ type Edit = unsafe extern "C" fn(
 ) -> u32;
 pub type Open = unsafe extern "C" fn(*mut SheetWords, *mut f64, usize, *mut u64) -> u32;
 type Remove = unsafe extern "C" fn(*mut SheetWords, usize, *mut f64, usize, *mut u64) -> u32;
-type SetColumn =
+pub type SetColumn =
     unsafe extern "C" fn(*mut SheetWords, usize, f64, f64, *mut f64, usize, *mut u64) -> u32;
 
-pub const CELLS: usize = ROWS * COLUMNS;
+/// The cells of these sheets, with one finish.
+pub const CELLS: usize = rows(1) * COLUMNS;
 
-/// The last column's total and a part's cell stand for all cells.
+/// The last column's total, in the last finish, and a part's cell stand for all cells.
 pub fn sum_of(cells: &[f64]) -> u64 {
-    cells[CELLS - 1].to_bits() ^ cells[COLUMNS + 3].to_bits()
+    cells[cells.len() - 1].to_bits() ^ cells[COLUMNS + 3].to_bits()
 }
 
 /// Inserts the 16th part into each sheet of 15, which writes all rows.
-fn build_pass(f: Edit, sheets: &[(SheetWords, PartWords)]) -> u64 {
-    let mut cells = [0.0; CELLS];
+pub fn build_pass<const N: usize>(f: Edit, sheets: &[(SheetWords, PartWords)]) -> u64 {
+    let mut cells = [0.0; N];
     let mut sum = 0u64;
     for (sheet, part) in sheets {
         let mut words = *sheet;
@@ -95,16 +98,10 @@ fn build_pass(f: Edit, sheets: &[(SheetWords, PartWords)]) -> u64 {
 }
 
 /// One call that puts a part at a place, and is accepted.
-fn accepted(
-    f: Edit,
-    words: &mut SheetWords,
-    place: usize,
-    part: &PartWords,
-    cells: &mut [f64; CELLS],
-) {
-    let mut bits = 0;
+fn accepted(f: Edit, words: &mut SheetWords, place: usize, part: &PartWords, cells: &mut [f64]) {
+    let (mut bits, count) = (0, cells.len());
     // SAFETY: all are borrowed apart, and the cells are as many as is said.
-    let status = unsafe { f(words, place, part, cells.as_mut_ptr(), CELLS, &mut bits) };
+    let status = unsafe { f(words, place, part, cells.as_mut_ptr(), count, &mut bits) };
     assert_eq!(status, 0);
 }
 
@@ -128,8 +125,12 @@ fn rebuild_pass(open: Open, insert: Edit, sheets: &[SheetWords]) -> u64 {
 }
 
 /// Replaces part after part in one full sheet.
-fn replace_pass(f: Edit, sheet: &SheetWords, parts: &[(usize, PartWords)]) -> u64 {
-    let mut cells = [0.0; CELLS];
+pub fn replace_pass<const N: usize>(
+    f: Edit,
+    sheet: &SheetWords,
+    parts: &[(usize, PartWords)],
+) -> u64 {
+    let mut cells = [0.0; N];
     let (mut words, mut sum) = (*sheet, 0u64);
     for (place, part) in parts {
         accepted(f, &mut words, *place, part, &mut cells);
@@ -162,8 +163,12 @@ fn remove_pass(f: Remove, sheets: &[(SheetWords, PartWords)]) -> u64 {
 }
 
 /// Sets column after column in one full sheet.
-fn column_pass(f: SetColumn, sheet: &SheetWords, columns: &[(usize, f64, f64)]) -> u64 {
-    let mut cells = [0.0; CELLS];
+pub fn column_pass<const N: usize>(
+    f: SetColumn,
+    sheet: &SheetWords,
+    columns: &[(usize, f64, f64)],
+) -> u64 {
+    let mut cells = [0.0; N];
     let (mut words, mut bits, mut sum) = (*sheet, 0, 0u64);
     for &(column, mach, reynolds) in columns {
         // SAFETY: all are our own and apart.
@@ -174,7 +179,7 @@ fn column_pass(f: SetColumn, sheet: &SheetWords, columns: &[(usize, f64, f64)]) 
                 mach,
                 reynolds,
                 cells.as_mut_ptr(),
-                CELLS,
+                N,
                 &mut bits,
             )
         };
@@ -185,7 +190,7 @@ fn column_pass(f: SetColumn, sheet: &SheetWords, columns: &[(usize, f64, f64)]) 
 }
 
 /// Sheets of 15 parts, with the 16th.
-fn fifteen(random: &mut Random, widens: bool) -> Vec<(SheetWords, PartWords)> {
+pub fn fifteen(random: &mut Random, widens: bool) -> Vec<(SheetWords, PartWords)> {
     (0..32)
         .map(|_| {
             let words = sheet(random, PLACES - 1, widens);
@@ -215,9 +220,11 @@ const OWN_SEED: u64 = 0x5eed_000d;
 /// A build of each of these sheets.
 fn time_builds(sheets: &[(SheetWords, PartWords)]) -> Times {
     let (port, original) = black_box((raw::cobalnis_insert as Edit, theirs::insert as Edit));
-    measure(sheets.len(), &mut || build_pass(port, sheets), &mut || {
-        build_pass(original, sheets)
-    })
+    measure(
+        sheets.len(),
+        &mut || build_pass::<CELLS>(port, sheets),
+        &mut || build_pass::<CELLS>(original, sheets),
+    )
 }
 
 /// Sheets of any parts, sheets in which every part widens, and the first ones again with roughnesses
@@ -280,8 +287,8 @@ fn time_replaces(full: &SheetWords, parts: &[(usize, PartWords)]) -> Times {
     let (port, original) = black_box((raw::cobalnis_replace as Edit, theirs::replace as Edit));
     measure(
         parts.len(),
-        &mut || replace_pass(port, full, parts),
-        &mut || replace_pass(original, full, parts),
+        &mut || replace_pass::<CELLS>(port, full, parts),
+        &mut || replace_pass::<CELLS>(original, full, parts),
     )
 }
 
@@ -344,8 +351,8 @@ pub fn set_columns(random: &mut Random) {
     ));
     let times = measure(
         columns.len(),
-        &mut || column_pass(port, &full, &columns),
-        &mut || column_pass(original, &full, &columns),
+        &mut || column_pass::<CELLS>(port, &full, &columns),
+        &mut || column_pass::<CELLS>(original, &full, &columns),
     );
     row("set column in a full sheet", times);
 }
