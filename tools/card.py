@@ -12,7 +12,8 @@ The text has one statement a line; # starts a comment, blank lines are skipped.
 A text without any statement makes a card file without any bytes.
 
   diameter 0.054            reference diameter in metres (must be given)
-  roughness 2e-5            relative roughness, 0 to 1 (left out: 0)
+  roughness 2e-5            relative roughness, 0 to 1 (left out: 0); several, up
+                            to 4, are as many finishes side by side
   fineness 20.5             length of the body over its diameter (must be given)
   column 0.3 7.8e6          Mach and Reynolds number; one line for each column
   part ogive 1 length 0.25 aft 0.054 angle 0 wetted 12.43 roughness 2e-6
@@ -20,8 +21,8 @@ A text without any statement makes a card file without any bytes.
 
 A part is: the shape, its parameter, then names with a number in any order:
 length and aft diameter in metres, joint angle in radians, wetted area over
-reference area, its own roughness, 0 to 1 (left out: the settings' roughness).
-Any other name left out counts as 0, a shape left out as conical.
+reference area, its own roughness, 0 to 1, in every finish (left out: the
+settings' roughness). Any other name left out counts as 0, a shape left out as conical.
 Shapes with a parameter: ogive (radius ratio, 1 is tangent), power (exponent),
 parabolic, haack (0 is von Karman). Shapes without: conical, elliptical.
 Numbers are decimal, or nan, inf, -inf. Any number is written as it stands, and
@@ -36,10 +37,11 @@ import sys
 SHAPES = ["conical", "ogive", "elliptical", "power", "parabolic", "haack"]
 WITH_PARAMETER = {"ogive", "power", "parabolic", "haack"}
 SETTINGS = ["diameter", "roughness", "fineness"]  # bits 0 to 2 of the settings card
+SEVERAL = 4  # its bit for several finishes
 PART_NAMES = ["length", "aft", "angle", "wetted", "roughness"]  # bits 2 to 6 of a part card
 PLACES = 16
 COLUMNS = 32
-ROWS = PLACES + 3  # a row for each place, friction, base, total
+FINISHES = 4
 NUMBER = re.compile(r"[+-]?([0-9]+\.?[0-9]*|\.[0-9]+)([eE][+-]?[0-9]+)?|nan|-?inf", re.ASCII)
 
 # What a sheet without columns and parts comes from.
@@ -55,16 +57,17 @@ REFUSALS = {
     3: "the haack parameter is above 1/3",
     4: "the bytes end inside this card",
     5: "a bit that must be 0 is set, or the shape number is above 5",
-    6: ("diameter or fineness is missing",
+    6: ("diameter or fineness is missing, or one roughness and several stand together",
         "ogive, power, parabolic and haack need their parameter, and other shapes may not have one"),
     7: f"more than {COLUMNS} columns",
     8: "a place that is not in the design, or a column that is not there",
     9: f"there are {PLACES} parts already, and no more fit",
-    10: f"too few cells for the sheet: {ROWS} for each column are needed",
-    11: ("the diameter is not within 0.001 to 100, or the roughness not within 0 to 1",
+    10: f"too few cells for the sheet: {PLACES + 1} and two for each finish are needed for each column",
+    11: ("the diameter is not within 0.001 to 100, or a roughness not within 0 to 1",
          "length or aft diameter is not within 0 to 100, the wetted ratio not within 0 to 10000, or the part's "
          "own roughness not within 0 to 1"),
     16: "a Mach number is below the one before it in a walk along a table",
+    19: f"no finish at all, or more than {FINISHES}",
 }
 
 
@@ -165,13 +168,23 @@ def to_cards(name, lines):
     return card(fields) + b"".join(parts)
 
 
+def to_finishes(words):
+    """The bytes of several roughnesses: how many, then each."""
+    if len(words) > FINISHES:
+        raise ValueError(f"{len(words)} finishes after 'roughness', and no more than {FINISHES} fit")
+    return bytes([len(words)]) + to_fields(words, len(words), "roughness")
+
+
 def statement(key, words, fields, columns, parts):
     """Takes one line of the text into the settings' fields, the columns or the parts."""
     if key in SETTINGS:
         bit = SETTINGS.index(key)
-        if bit in fields:
+        if bit in fields or key == "roughness" and SEVERAL in fields:
             raise ValueError(f"'{key}' is given twice")
-        fields[bit] = to_fields(words, 1, key)
+        if key == "roughness" and len(words) > 1:
+            fields[SEVERAL] = to_finishes(words)
+        else:
+            fields[bit] = to_fields(words, 1, key)
     elif key == "column":
         if len(columns) == 255:
             raise ValueError("more than 255 columns can't be written into a card")
@@ -200,12 +213,20 @@ def refusal(name, lines):
 
 
 def row_name(done, line):
-    """The name that a line must have after the rows done; for none left, 'nothing'."""
-    last = done[-1][0] if done else ""
-    following = {"": "mach", "friction": "base", "base": "total", "total": "nothing"}
-    if last in following:
-        return following[last]
-    return f"part {len(done) - 1}" if line.startswith("part") else "friction"
+    """The name that a line must have after the rows done; for none left, 'nothing'. Several finishes are numbered."""
+    names = [name for name, _ in done]
+    frictions, totals = (sum(name.startswith(word) for name in names) for word in ("friction", "total"))
+    if not names:
+        return "mach"
+    if "base" in names:
+        next_total = "total" if "friction" in names else f"total {totals}"
+        return next_total if totals < frictions else "nothing"
+    if not frictions:
+        if line.startswith("part"):
+            return f"part {len(done) - 1}"
+        return "friction 0" if line.split(" ")[:2] == ["friction", "0"] else "friction"
+    last = frictions > 1 and not line.startswith("friction")
+    return "base" if "friction" in names or frictions == FINISHES or last else f"friction {frictions}"
 
 
 def row(done, line):
@@ -223,7 +244,8 @@ def row(done, line):
 
 
 def rows(name, lines):
-    """The list of rows: mach, part 0, part 1, .., friction, base, total."""
+    """The list of rows: mach, part 0, part 1, .., friction, base, total; several finishes have a friction and a
+    total each: friction 0, friction 1, .., base, total 0, total 1, .."""
     done = []
     for number, line in enumerate(lines, 1):
         try:
@@ -237,7 +259,7 @@ def rows(name, lines):
 
 def nothing_asked(found):
     """Whether the rows are those of a sheet without columns and parts."""
-    return [name for name, values in found if not values] == ["mach", "friction", "base", "total"]
+    return bool(found) and not any(values or name.startswith("part") for name, values in found)
 
 
 def decimal(x):
@@ -257,7 +279,7 @@ def table(found):
 # ---- plot: rows to SVG ----
 
 COLOURS = ["#1b6ca8", "#c8553d", "#2e8b57", "#8e5ea2", "#b8860b", "#5b7083", "#d0648f", "#3aa6a0"]
-DASHES = ["", ' stroke-dasharray="6 4"', ' stroke-dasharray="2 3"']
+DASHES = ["", ' stroke-dasharray="6 4"', ' stroke-dasharray="2 3"', ' stroke-dasharray="10 3 2 3"']
 LEFT, TOP, WIDTH, HEIGHT = 80, 50, 560, 380  # the frame around the curves
 
 
@@ -303,6 +325,16 @@ def axes(xs, ys, to_x, to_y):
     return out + [svg_text(22, half, "drag coefficient", middle + f' transform="rotate(-90 22 {half:.1f})"')]
 
 
+def looks(titles):
+    """The colour and the dashes of each row: totals are black, and finishes differ by their dashes alone."""
+    matches = [re.fullmatch(r"(friction|total) ([0-9])", title) for title in titles]
+    kinds = [match[1] if match else title for match, title in zip(matches, titles)]
+    for match, kind in zip(matches, kinds):
+        dash, place = divmod(list(dict.fromkeys(kinds)).index(kind), len(COLOURS))
+        colour = "#111111" if kind == "total" else COLOURS[place]
+        yield colour, DASHES[int(match[2]) if match else 0 if kind == "total" else dash]
+
+
 def plot(name, found):
     """The sheet as an SVG picture."""
     machs = found[0][1]
@@ -319,9 +351,8 @@ def plot(name, found):
            f'<rect width="790" height="{high}" fill="#fcfcfa"/>',
            svg_text(LEFT, 30, "Drag coefficient against Mach", ' font-size="16"')]
     out += axes(xs, ys, to_x, to_y)
-    for index, (title, values) in enumerate(drawn):
-        colour = "#111111" if title == "total" else COLOURS[index % len(COLOURS)]
-        dash = "" if title == "total" else DASHES[index // len(COLOURS) % 3]
+    styles = looks([title for title, _ in drawn])
+    for index, ((title, values), (colour, dash)) in enumerate(zip(drawn, styles)):
         points = sorted(zip(machs, values), key=lambda point: point[0])
         out += curve([(to_x(mach), to_y(value)) for mach, value in points], colour, dash)
         x, y = LEFT + WIDTH + 18, TOP + 16 + 22 * index

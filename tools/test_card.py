@@ -1,8 +1,8 @@
 #!/usr/bin/env python3
 """Tests of card.py: python3 tools/test_card.py
 
-Where the environment variable SHEET names the compiled program `sheet`, the example card is also
-run through it and must give the example sheet byte for byte.
+Where the environment variable SHEET names the compiled program `sheet`, the example cards are
+also run through it and must give the example sheets byte for byte.
 """
 
 import os
@@ -21,6 +21,10 @@ SHEET = os.environ.get("SHEET")
 # The example of docs/REFERENCE.md: its text, its bytes, its five lines.
 PAPER_TEXT = "diameter 1\nfineness 1\ncolumn 0 0\npart aft 1\n"
 PAPER_CARD = bytes.fromhex("0d" + "000000000000f03f" * 2 + "01" + "00" * 16 + "08" + "000000000000f03f")
+# D and B of 1, one column, three finishes, no parts; and what is printed for no columns.
+FINISHES_TEXT = "diameter 1\nroughness 0.5 0 1\nfineness 1\ncolumn 0 0\n"
+FINISHES_CARD = (b"\x1d" + struct.pack("<2dB2d", 1, 1, 1, 0, 0) + b"\x03" + struct.pack("<3d", 0.5, 0, 1))
+FINISHES_NAMES = ["mach", "friction 0", "friction 1", "friction 2", "base", "total 0", "total 1", "total 2"]
 BLANK_SHEET = "mach\nfriction\nbase\ntotal\n"
 PAPER_SHEET = """mach 0000000000000000
 part 0 3feb333333333333
@@ -77,6 +81,19 @@ class Write(unittest.TestCase):
                            ("part wetted 2", b"\x20" + struct.pack("<d", 2))]:
             self.assertEqual(self.written(head + line + "\n"), card + part)
 
+    def test_finishes(self):
+        self.assertEqual(self.written(FINISHES_TEXT), FINISHES_CARD)
+        for count in range(1, 5):
+            values = [0.25, 1, -0.0, 5][:count]
+            text = "diameter 1\nfineness 1\nroughness " + " ".join(map(str, values)) + "\n"
+            floats = struct.pack(f"<{count}d", *values)
+            one, several = b"\x07" + struct.pack("<d", 1) + floats + struct.pack("<d", 1), (
+                b"\x15" + struct.pack("<2dB", 1, 1, count) + floats)
+            self.assertEqual(self.written(text), one if count == 1 else several)
+        for line in ("roughness 1", "roughness 1 2"):
+            for again in ("roughness 1", "roughness 1 2"):
+                self.refused(f"{line}\n{again}\n", 2, "'roughness' is given twice")
+
     def test_nothing(self):
         for text in ("", "\n", "\r\n \t\r\n", "\ufeff", "# a comment\n\n  # another"):
             self.assertEqual(self.written(text), b"")
@@ -95,7 +112,7 @@ class Write(unittest.TestCase):
     def test_bad_text(self):
         for line, words in [
             ("colour 3", "unknown word 'colour'"), ("diameter", "missing"), ("diameter x", "'x' is not a number"),
-            ("roughness 1 2", "'2' is too much"), ("column 0.3", "missing"), ("column", "missing"),
+            ("roughness 1 2 3 4 5", "5 finishes"), ("roughness", "missing"), ("roughness 1 x", "'x' is not"), ("column 0.3", "missing"), ("column", "missing"),
             ("column 1 2 3", "'3' is too much"), ("column 1 1_0", "'1_0' is not a number"),
             ("fineness 1e999", "too large"), ("fineness infinity", "not a number"), ("fineness 0x1", "not a number"),
             ("part cubic", "unknown shape 'cubic'"), ("part ogive length 1", "missing after 'ogive'"),
@@ -134,18 +151,40 @@ class Read(unittest.TestCase):
         status, output, errors = call("read", BLANK_SHEET)
         self.assertEqual((status, errors), (0, ""))
         self.assertEqual(output.decode(), BLANK_SHEET + "no card was read, or one without columns and parts\n")
+        several = "\n".join(FINISHES_NAMES) + "\n"
+        self.assertEqual(call("read", several), (0, several.encode() + output.splitlines(keepends=True)[-1], ""))
         parts = "mach\npart 0\nfriction\nbase\ntotal\n"
         self.assertEqual(call("read", parts), (0, parts.encode(), ""))
 
+    def test_finishes(self):
+        for count in (2, 3, 4):
+            names = ["mach", "part 0"] + [f"friction {j}" for j in range(count)] + ["base"]
+            names += [f"total {j}" for j in range(count)]
+            lines = [f"{name} 3feb333333333333" for name in names]
+            status, output, errors = call("read", "\n".join(lines) + "\n")
+            self.assertEqual((status, errors), (0, ""))
+            self.assertEqual([line.rsplit(maxsplit=1)[0] for line in output.decode().splitlines()], names)
+            # A line left out, or one too many, is told where it is missed.
+            for missing in range(count + 2, len(lines)):
+                status, output, errors = call("read", "\n".join(lines[:missing] + lines[missing + 1:]) + "\n")
+                self.assertEqual((status, output), (1, b""), names[missing])
+                self.assertIn(f"card.py: -:{missing + 1}: ", errors)
+            for more in (f"total {count} 3feb333333333333", "total 3feb333333333333"):
+                self.assertEqual(call("read", "\n".join(lines + [more]) + "\n")[0], 1)
+        for names in (["friction 0", "base", "total 0"], ["friction", "friction 0", "base", "total"],
+                      ["friction 1", "friction 2", "base", "total 1", "total 2"], ["friction", "base", "total 0"],
+                      [f"friction {j}" for j in range(5)] + ["base"] + [f"total {j}" for j in range(5)]):
+            self.assertEqual(call("read", "\n".join(["mach"] + names) + "\n")[:2], (1, b""), names)
+
     def test_refusals(self):
         said = set()
-        for number in [*range(1, 12), 16]:
+        for number in [*range(1, 12), 16, 19]:
             for card, where in [(0, "the settings card"), (3, "part card 3")]:
                 status, output, _ = call("read", f"refused {number} card {card}\n")
                 self.assertEqual(status, 0)
                 self.assertTrue(output.decode().startswith(f"refused at {where}: "), output)
                 said.add(output.decode().split(": ", 1)[1])
-        self.assertEqual(len(said), 12 + 3)  # 1, 6 and 11 have words of their own for settings and parts
+        self.assertEqual(len(said), 13 + 3)  # 1, 6 and 11 have words of their own for settings and parts
         self.assertIn("roughness not within 0 to 1 ", call("read", "refused 11 card 1\n")[1].decode())
 
     def test_malformed(self):
@@ -178,13 +217,23 @@ class Plot(unittest.TestCase):
         self.assertEqual((status, errors), (0, ""))
         root = xml.etree.ElementTree.fromstring(output)
         texts = [node.text for node in root.iter("{http://www.w3.org/2000/svg}text")]
-        return [word for word in texts if word.startswith("part") or word in ("friction", "base", "total")]
+        return [word for word in texts if word.split(" ")[0] in ("part", "friction", "base", "total")]
 
     def test_rows(self):
         self.assertEqual(self.drawn(PAPER_SHEET), ["part 0", "friction", "base", "total"])
         zero = PAPER_SHEET.replace("3feb333333333333", "0" * 16)
         self.assertEqual(self.drawn(zero), ["friction", "base", "total"])
         self.assertEqual(len(self.drawn(PAPER_SHEET.replace("3feb333333333333", "7ff8000000000000"))), 4)
+
+    def test_finishes(self):
+        sheet = "".join(f"{name} 3feb333333333333\n" for name in FINISHES_NAMES)
+        self.assertEqual(self.drawn(sheet), FINISHES_NAMES[1:])
+        lines = [line for line in call("plot", sheet)[1].decode().splitlines() if "<path" in line]
+        looks = [line[line.index("stroke="):] for line in lines]
+        self.assertEqual(len(set(looks)), 7)  # no two rows look alike
+        dashes = [look.split("dasharray=")[1:] for look in looks]
+        self.assertEqual(dashes[:3], dashes[4:])  # a finish has the same dashes in both
+        self.assertEqual([look.split('"')[1] for look in looks[4:]], ["#111111"] * 3)
 
     def test_nothing_to_plot(self):
         huge = PAPER_SHEET.replace("3fb", "7fe")
@@ -194,18 +243,29 @@ class Plot(unittest.TestCase):
 
 
 class Example(unittest.TestCase):
-    def kept(self, ending):
-        return (EXAMPLES / ("club_rocket" + ending)).read_bytes()
+    NAMES = ["club_rocket", "club_rocket_finishes"]
+
+    def kept(self, name, ending):
+        return (EXAMPLES / (name + ending)).read_bytes()
 
     def test_card_and_plot(self):
-        self.assertEqual(call("write", self.kept(".txt"))[1], self.kept(".card"))
-        self.assertEqual(call("read", self.kept(".sheet"))[0], 0)
-        self.assertEqual(call("plot", self.kept(".sheet"))[1], self.kept(".svg"))
+        for name in self.NAMES:
+            self.assertEqual(call("write", self.kept(name, ".txt"))[1], self.kept(name, ".card"))
+            self.assertEqual(call("read", self.kept(name, ".sheet"))[0], 0)
+            self.assertEqual(call("plot", self.kept(name, ".sheet"))[1], self.kept(name, ".svg"))
+
+    def test_same_rocket(self):
+        one, several = ({line.rsplit(b" ", 11)[0]: line.split(b" ")[-11:] for line in
+                         self.kept(name, ".sheet").splitlines()} for name in self.NAMES)
+        for name, cells in one.items():
+            name = {b"friction": b"friction 1", b"total": b"total 1"}.get(name, name)
+            self.assertEqual(several[name], cells)
 
     @unittest.skipUnless(SHEET, "SHEET doesn't name the compiled program")
     def test_program(self):
         blank = call("write", "")[1], BLANK_SHEET.encode()
-        for card, sheet in [(self.kept(".card"), self.kept(".sheet")), (PAPER_CARD, PAPER_SHEET.encode()), blank]:
+        examples = [(self.kept(name, ".card"), self.kept(name, ".sheet")) for name in self.NAMES]
+        for card, sheet in examples + [(PAPER_CARD, PAPER_SHEET.encode()), blank]:
             done = subprocess.run([SHEET], input=card, capture_output=True)
             self.assertEqual(done.stdout, sheet)
 
