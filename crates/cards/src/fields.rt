@@ -1,5 +1,5 @@
-// The fields of a card (docs/REFERENCE.md, Cards): a byte, a float, or a float of each column, read
-// from lent bytes.
+// The fields of a card (docs/REFERENCE.md, Cards): a byte, a float, a float of each column or of each
+// finish, read from lent bytes.
 ghost use Rattle.std.specs.Prelude.{◌≡◌, ◌+◌, ◌*◌, ◌≤◌, ◌<◌, length};
 ghost use Rattle.elementary.specs.Arithmetic.{bits};
 ghost use Rattle.sheet_data.specs.Layout.{most_columns, most_finishes};

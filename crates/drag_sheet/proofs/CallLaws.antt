@@ -108,7 +108,7 @@ not_body F row h n =
     (λ q. absurd (n.total (row - total_row F 0) (omega arith) (omega arith)))))
 
 module _ (sheet : Sheet) (arrays : Arrays sheet) (xs : List Float) (r : Answer) (ys : List Float) where
-  -- "Cells past (17 + 2 × F) × C are never written"
+  -- "Cells past 19 × C are never written"; of F finishes these are the cells past (17 + 2 × F) × C
   pub past_kept : (call : Call) → Called call sheet xs r ys → drop (needed sheet.settings.finishes sheet.settings.count) ys ≡ drop (needed sheet.settings.finishes sheet.settings.count) xs
   past_kept call c = by (ended call sheet xs r ys c)
     where

@@ -1,5 +1,6 @@
--- Orders of tests that code and definition could get wrong alike. 19 "after D and before 11 for any roughness". "1 for each column (M, R), 10": a column's refusal comes before that of the cells, however few
--- are lent. "a held one right after 10": a nozzle diameter's refusal comes after it, and before that of the parts, however many there are.
+-- Orders of tests that code and definition could get wrong alike. 19 comes "after D and before 11 for any roughness". "1 for each column (M, R), 10": a column's refusal
+-- comes before that of the cells, however few are lent. "a held one right after 10": a nozzle diameter's refusal comes after it, and before that of the parts, however many
+-- there are.
 use Rattle.std.specs.Prelude.{Ok, Err}
 use mathlib.Core.Path.{◌≡◌, refl}
 use mathlib.Core.Bool.{false}
