@@ -27,12 +27,19 @@ Shapes with a parameter: ogive (radius ratio, 1 is tangent), power (exponent),
 parabolic, haack (0 is von Karman). Shapes without: conical, elliptical.
 Numbers are decimal, or nan, inf, -inf. Any number is written as it stands, and
 only what is given; whether it is accepted is for `sheet` to say.
+
+A + right after a number of a sheet says that a table which the number rests on
+ends below that Mach number, so that the table's last value is held. read keeps
+the +, and plot dashes the line from the last number without one on.
 """
 
 import math
 import re
 import struct
 import sys
+from typing import NamedTuple
+
+from sheet_plot import plot
 
 SHAPES = ["conical", "ogive", "elliptical", "power", "parabolic", "haack"]
 WITH_PARAMETER = {"ogive", "power", "parabolic", "haack"}
@@ -46,6 +53,9 @@ NUMBER = re.compile(r"[+-]?([0-9]+\.?[0-9]*|\.[0-9]+)([eE][+-]?[0-9]+)?|nan|-?in
 
 # What a sheet without columns and parts comes from.
 NOTHING_ASKED = "no card was read, or one without columns and parts"
+
+# What a + means to somebody who reads a sheet.
+MARKED = "+: a table that the number rests on ends below that Mach number, and its last value is held there"
 
 # What each refusal number means to somebody who wrote the cards; a pair: settings card, part card.
 REFUSALS = {
@@ -62,7 +72,7 @@ REFUSALS = {
     7: f"more than {COLUMNS} columns",
     8: "a place that is not in the design, or a column that is not there",
     9: f"there are {PLACES} parts already, and no more fit",
-    10: f"too few cells for the sheet: {PLACES + 1} and two for each finish are needed for each column",
+    10: f"too few cells or marks for the sheet: of both {PLACES + 1} and two for each finish are needed for each column",
     11: ("the diameter is not within 0.001 to 100, or a roughness not within 0 to 1",
          "length or aft diameter is not within 0 to 100, the wetted ratio not within 0 to 10000, or the part's "
          "own roughness not within 0 to 1"),
@@ -197,6 +207,13 @@ def statement(key, words, fields, columns, parts):
 
 # ---- read: the program's output to rows of numbers ----
 
+class Row(NamedTuple):
+    """A line of a sheet: its name, its numbers, and whether each is marked with a +."""
+    name: str
+    numbers: list
+    marks: list
+
+
 def refusal(name, lines):
     """The plain words for a `refused N card K` input; None for any other."""
     match = re.fullmatch(r"refused ([0-9]{1,9}) card ([0-9]{1,9})", lines[0], re.ASCII)
@@ -214,7 +231,7 @@ def refusal(name, lines):
 
 def row_name(done, line):
     """The name that a line must have after the rows done; for none left, 'nothing'. Several finishes are numbered."""
-    names = [name for name, _ in done]
+    names = [row.name for row in done]
     frictions, totals = (sum(name.startswith(word) for name in names) for word in ("friction", "total"))
     if not names:
         return "mach"
@@ -229,18 +246,21 @@ def row_name(done, line):
     return "base" if "friction" in names or frictions == FINISHES or last else f"friction {frictions}"
 
 
-def row(done, line):
-    """A line as (its name, its numbers); ValueError says what is wrong."""
+def to_row(done, line):
+    """The row of a line; ValueError says what is wrong."""
     name = row_name(done, line)
     if line != name and not line.startswith(name + " "):
         raise ValueError(f"'{line[:20]}' stands where {name} was expected")
     words = line[len(name):].split(" ")[1:]
     for word in words:
-        if not re.fullmatch(r"[0-9a-f]{16}", word):
-            raise ValueError(f"'{word}' is not 16 hexadecimal digits")
-    if done and len(words) != len(done[0][1]):
-        raise ValueError(f"{len(words)} numbers, but the mach line has {len(done[0][1])}")
-    return name, [struct.unpack(">d", bytes.fromhex(word))[0] for word in words]
+        if not re.fullmatch(r"[0-9a-f]{16}\+?", word):
+            raise ValueError(f"'{word}' is not 16 hexadecimal digits, with one + right after them or none")
+        if word.endswith("+") and not name.startswith(("part", "total")):
+            raise ValueError(f"'{word}' has a + on the line {name}, and only parts and totals have one")
+    if done and len(words) != len(done[0].numbers):
+        raise ValueError(f"{len(words)} numbers, but the mach line has {len(done[0].numbers)}")
+    numbers = [struct.unpack(">d", bytes.fromhex(word[:16]))[0] for word in words]
+    return Row(name, numbers, [word.endswith("+") for word in words])
 
 
 def rows(name, lines):
@@ -249,7 +269,7 @@ def rows(name, lines):
     done = []
     for number, line in enumerate(lines, 1):
         try:
-            done.append(row(done, line))
+            done.append(to_row(done, line))
         except ValueError as error:
             raise Problem(name, number, str(error)) from None
     if row_name(done, "") != "nothing":
@@ -259,7 +279,7 @@ def rows(name, lines):
 
 def nothing_asked(found):
     """Whether the rows are those of a sheet without columns and parts."""
-    return bool(found) and not any(values or name.startswith("part") for name, values in found)
+    return bool(found) and not any(row.numbers or row.name.startswith("part") for row in found)
 
 
 def decimal(x):
@@ -268,97 +288,17 @@ def decimal(x):
 
 
 def table(found):
-    """The rows as aligned decimals."""
-    texts = [[name] + [f"{x:.10g}" if name == "mach" else decimal(x) for x in values] for name, values in found]
+    """The rows as aligned decimals, those that are marked with their +; the others of a column that has one end in a blank."""
+    marked = [any(marks) for marks in zip(*(row.marks for row in found))]
+    texts = []
+    for row in found:
+        words = [f"{x:.10g}" if row.name == "mach" else decimal(x) for x in row.numbers]
+        ends = ["+" if mark else " " if of_column else "" for mark, of_column in zip(row.marks, marked)]
+        texts.append([row.name] + [word + end for word, end in zip(words, ends)])
     widths = [max(map(len, column)) for column in zip(*texts)]
     lines = [[words[0].ljust(widths[0])] + [word.rjust(width) for word, width in zip(words[1:], widths[1:])]
              for words in texts]
     return "".join("  ".join(words).rstrip() + "\n" for words in lines)
-
-
-# ---- plot: rows to SVG ----
-
-COLOURS = ["#1b6ca8", "#c8553d", "#2e8b57", "#8e5ea2", "#b8860b", "#5b7083", "#d0648f", "#3aa6a0"]
-DASHES = ["", ' stroke-dasharray="6 4"', ' stroke-dasharray="2 3"', ' stroke-dasharray="10 3 2 3"']
-LEFT, TOP, WIDTH, HEIGHT = 80, 50, 560, 380  # the frame around the curves
-
-
-def ticks(values):
-    """Round numbers around 0 and all the values."""
-    low, high = min(values + [0.0]), max(values + [0.0])
-    rough = (high - low if high - low > 1e-300 else 1.0) / 10
-    power = 10.0 ** math.floor(math.log10(rough))
-    step = next(m * power for m in (1, 2, 2.5, 5, 10, 20) if m * power >= rough)
-    first, last = math.floor(low / step + 1e-9), math.ceil(high / step - 1e-9)
-    return [k * step for k in range(first, max(last, first + 1) + 1)]
-
-
-def svg_line(x1, y1, x2, y2, more):
-    return f'<line x1="{x1:.1f}" y1="{y1:.1f}" x2="{x2:.1f}" y2="{y2:.1f}" {more}/>'
-
-
-def svg_text(x, y, words, more=""):
-    return f'<text x="{x:.1f}" y="{y:.1f}"{more}>{words}</text>'
-
-
-def curve(points, colour, dash):
-    """One row: its line, interrupted where a number isn't finite, and a mark at each column."""
-    marks, path, pen = [], "", "M"
-    for x, y in points:
-        if math.isfinite(y):
-            marks.append(f'<circle cx="{x:.1f}" cy="{y:.1f}" r="2.8" fill="{colour}"/>')
-            path += f"{pen}{x:.1f},{y:.1f} "
-        pen = "L" if math.isfinite(y) else "M"
-    return marks + [f'<path d="{path.strip()}" fill="none" stroke="{colour}" stroke-width="2"{dash}/>']
-
-
-def axes(xs, ys, to_x, to_y):
-    """Grid lines, numbers at them, the frame, and the names of the axes."""
-    grey, middle, end = 'stroke="#dddddd"', ' text-anchor="middle"', ' text-anchor="end"'
-    right, low, half = LEFT + WIDTH, TOP + HEIGHT, TOP + HEIGHT / 2
-    out = [svg_line(to_x(x), TOP, to_x(x), low + 5, grey) for x in xs]
-    out += [svg_line(LEFT - 5, to_y(y), right, to_y(y), grey) for y in ys]
-    out += [svg_text(to_x(x), low + 21, f"{x:.6g}", middle) for x in xs]
-    out += [svg_text(LEFT - 10, to_y(y) + 4, f"{y:.6g}", end) for y in ys]
-    out.append(f'<rect x="{LEFT}" y="{TOP}" width="{WIDTH}" height="{HEIGHT}" fill="none" stroke="#444444"/>')
-    out.append(svg_text(LEFT + WIDTH / 2, low + 45, "Mach", middle))
-    return out + [svg_text(22, half, "drag coefficient", middle + f' transform="rotate(-90 22 {half:.1f})"')]
-
-
-def looks(titles):
-    """The colour and the dashes of each row: totals are black, and finishes differ by their dashes alone."""
-    matches = [re.fullmatch(r"(friction|total) ([0-9])", title) for title in titles]
-    kinds = [match[1] if match else title for match, title in zip(matches, titles)]
-    for match, kind in zip(matches, kinds):
-        dash, place = divmod(list(dict.fromkeys(kinds)).index(kind), len(COLOURS))
-        colour = "#111111" if kind == "total" else COLOURS[place]
-        yield colour, DASHES[int(match[2]) if match else 0 if kind == "total" else dash]
-
-
-def plot(name, found):
-    """The sheet as an SVG picture."""
-    machs = found[0][1]
-    drawn = [(title, values) for title, values in found[1:] if not title.startswith("part") or any(values)]
-    finite = [x for _, values in drawn for x in values if math.isfinite(x)]
-    if not finite or not all(abs(x) < 1e100 for x in machs + finite):
-        raise Problem(name, 0, "can't be plotted: no columns, no finite numbers, or numbers too large")
-    xs, ys = ticks(machs), ticks(finite)
-    to_x = lambda x: LEFT + WIDTH * (x - xs[0]) / (xs[-1] - xs[0])
-    to_y = lambda y: TOP + HEIGHT * (ys[-1] - y) / (ys[-1] - ys[0])
-    high = max(TOP + HEIGHT + 65, TOP + 30 + 22 * len(drawn))
-    out = [f'<svg xmlns="http://www.w3.org/2000/svg" viewBox="0 0 790 {high}" width="790" height="{high}" '
-           'font-family="sans-serif" font-size="13" fill="#222222">',
-           f'<rect width="790" height="{high}" fill="#fcfcfa"/>',
-           svg_text(LEFT, 30, "Drag coefficient against Mach", ' font-size="16"')]
-    out += axes(xs, ys, to_x, to_y)
-    styles = looks([title for title, _ in drawn])
-    for index, ((title, values), (colour, dash)) in enumerate(zip(drawn, styles)):
-        points = sorted(zip(machs, values), key=lambda point: point[0])
-        out += curve([(to_x(mach), to_y(value)) for mach, value in points], colour, dash)
-        x, y = LEFT + WIDTH + 18, TOP + 16 + 22 * index
-        out.append(svg_line(x, y, x + 28, y, f'stroke="{colour}" stroke-width="2"{dash}'))
-        out.append(svg_text(x + 36, y + 4, title))
-    return "\n".join(out + ["</svg>"]) + "\n"
 
 
 def run(command, name):
@@ -370,10 +310,14 @@ def run(command, name):
     found = [] if refused else rows(name, lines)
     word = NOTHING_ASKED if nothing_asked(found) else refused
     if command == "read":
-        return (table(found) + (word + "\n" if word else "")).encode()
+        last = word or (MARKED if any(any(row.marks) for row in found) else "")
+        return (table(found) + (last + "\n" if last else "")).encode()
     if word:
         raise Problem(name, 1, "there is nothing to plot: " + word)
-    return plot(name, found).encode()
+    picture = plot(found)
+    if picture is None:
+        raise Problem(name, 0, "can't be plotted: no columns, no finite numbers, or numbers too large")
+    return picture.encode()
 
 
 def main(arguments):

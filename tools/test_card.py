@@ -33,12 +33,42 @@ base 3fbeb851eb851eb8
 total 3fef0a3d70a3d70a
 """
 
+# Three columns, Mach 1 to 3; in the last two the nose's table has ended. What is read from it, with the marks and without.
+MARKED_SHEET = """mach 3ff0000000000000 4000000000000000 4008000000000000
+part 0 3fe0000000000000 3fd0000000000000+ 3fd0000000000000+
+friction 3fd0000000000000 3fc0000000000000 3fc0000000000000
+base 3fc0000000000000 3fc0000000000000 3fb0000000000000
+total 3fec000000000000 3fe0000000000000+ 3fdc000000000000+
+"""
+MARKED_READ = """mach             1         2          3
+part 0    0.500000  0.250000+  0.250000+
+friction  0.250000  0.125000   0.125000
+base      0.125000  0.125000   0.062500
+total     0.875000  0.500000+  0.437500+
++: a table that the number rests on ends below that Mach number, and its last value is held there
+"""
+UNMARKED_READ = """mach             1         2         3
+part 0    0.500000  0.250000  0.250000
+friction  0.250000  0.125000  0.125000
+base      0.125000  0.125000  0.062500
+total     0.875000  0.500000  0.437500
+"""
+
 
 def call(command, data):
     """card.py on standard input: (status, output, errors)."""
     data = data.encode() if isinstance(data, str) else data
     done = subprocess.run([sys.executable, str(HERE / "card.py"), command, "-"], input=data, capture_output=True)
     return done.returncode, done.stdout, done.stderr.decode()
+
+
+def refused_at(test, text, line):
+    """A text that both readers of sheets refuse, in one line that tells the text's."""
+    for command in ("read", "plot"):
+        status, output, errors = call(command, text)
+        test.assertEqual((status, output), (1, b""), text)
+        test.assertTrue(errors.startswith(f"card.py: -:{line}: "), (text, errors))
+        test.assertEqual(errors.count("\n"), 1)
 
 
 class Write(unittest.TestCase):
@@ -195,11 +225,7 @@ class Read(unittest.TestCase):
                (PAPER_SHEET.replace("base ", "base  "), 4), (PAPER_SHEET.replace("0\nbase", "0 " + "0" * 16 + "\nbase"), 3)]
         bad += [("".join(lines[:count]), count + 1) for count in range(1, 5)]
         for text, line in bad:
-            for command in ("read", "plot"):
-                status, output, errors = call(command, text)
-                self.assertEqual((status, output), (1, b""), text)
-                self.assertTrue(errors.startswith(f"card.py: -:{line}: "), (text, errors))
-                self.assertEqual(errors.count("\n"), 1)
+            refused_at(self, text, line)
 
     def test_unreadable_and_usage(self):
         with tempfile.TemporaryDirectory() as folder:
@@ -242,6 +268,93 @@ class Plot(unittest.TestCase):
             self.assertEqual((status, output, errors.count("\n")), (1, b"", 1))
 
 
+class Marks(unittest.TestCase):
+    # The points of the lines of MARKED_SHEET's plot, Mach 1, 2 and 3.
+    PART = ["266.7,218.9", "453.3,324.4", "640.0,324.4"]
+    FRICTION = ["266.7,324.4", "453.3,377.2", "640.0,377.2"]
+    BASE = ["266.7,377.2", "453.3,377.2", "640.0,403.6"]
+    TOTAL = ["266.7,60.6", "453.3,218.9", "640.0,245.3"]
+
+    def line(self, points, colour, dashes=""):
+        dashes = f' stroke-dasharray="{dashes}"' if dashes else ""
+        return f'<path d="M{" L".join(points)}" fill="none" stroke="{colour}" stroke-width="2"{dashes}/>'
+
+    def plotted(self, text):
+        """The lines of the plot that draw rows, those that say held, and all others."""
+        status, output, errors = call("plot", text)
+        self.assertEqual((status, errors), (0, ""))
+        lines = output.decode().splitlines()
+        drawn, words = ([line for line in lines if mark in line] for mark in ("<path", ">held<"))
+        return drawn, words, [line for line in lines if line not in drawn + words]
+
+    def test_read(self):
+        self.assertEqual(call("read", MARKED_SHEET), (0, MARKED_READ.encode(), ""))
+        self.assertEqual(call("read", MARKED_SHEET.replace("+", "")), (0, UNMARKED_READ.encode(), ""))
+
+    def test_read_columns_apart(self):
+        # A mark widens its own column; a NaN is marked like any number.
+        one = MARKED_SHEET.replace("0000+\n", "0000\n").replace("3fd0000000000000+", "7ff8000000000000+")
+        lines = call("read", one)[1].decode().splitlines()
+        self.assertEqual(lines[0], "mach             1         2          3")
+        self.assertEqual(lines[1], "part 0    0.500000       nan+  0.250000")
+        self.assertEqual(lines[4:], ["total     0.875000  0.500000+  0.437500", MARKED_READ.splitlines()[5]])
+
+    def test_bad_text(self):
+        for old, new, line in [
+            ("mach 3ff0000000000000", "mach 3ff0000000000000+", 1), ("4008000000000000", "4008000000000000+", 1),
+            ("3fd0000000000000+\n", "3fd0000000000000++\n", 2), ("3fd0000000000000+ ", "3fd0000000000000 + ", 2),
+            ("part 0 ", "part 0 +", 2), ("part 0 ", "part 0+ ", 2), ("3fd0000000000000+ ", "3fd000000000000+ ", 2),
+            ("3fd0000000000000+ ", "3fd0000000000000+3", 2), ("3fd0000000000000+\n", "3fd0000000000000+ \n", 2),
+            ("3fd0000000000000 ", "3fd0000000000000+ ", 3), ("3fb0000000000000", "3fb0000000000000+", 4),
+            ("3fdc000000000000+", "3fdc000000000000 +", 5), ("3fdc000000000000+", "3fdc000000000000-", 5),
+        ]:
+            self.assertEqual(MARKED_SHEET.count(old), 1, old)
+            refused_at(self, MARKED_SHEET.replace(old, new), line)
+
+    def test_plot(self):
+        drawn, words, _ = self.plotted(MARKED_SHEET)
+        self.assertEqual(drawn, [
+            self.line(self.PART[:1], "#1b6ca8"), self.line(self.PART, "#1b6ca8", "3 7"), self.line(self.FRICTION, "#c8553d"),
+            self.line(self.BASE, "#2e8b57"), self.line(self.TOTAL[:1], "#111111"), self.line(self.TOTAL, "#111111", "3 7")])
+        # The word stands once, above the middle of the total's first stretch.
+        self.assertEqual([word.split(" stroke")[0] for word in words], ['<text x="360.0" y="130.7"'])
+
+    def test_plot_without_marks(self):
+        drawn, words, others = self.plotted(MARKED_SHEET.replace("+", ""))
+        self.assertEqual(drawn, [self.line(self.PART, "#1b6ca8"), self.line(self.FRICTION, "#c8553d"),
+                                 self.line(self.BASE, "#2e8b57"), self.line(self.TOTAL, "#111111")])
+        self.assertEqual((words, others), ([], self.plotted(MARKED_SHEET)[2]))
+
+    def test_plot_last_column(self):
+        # Dashed from the number before on, by Mach and not by column; a row that has finishes' dashes too.
+        last = MARKED_SHEET.replace("+ ", " ")
+        turned = "".join(" ".join([line.rsplit(" ", 3)[0]] + line.split(" ")[:-4:-1]) + "\n" for line in last.splitlines())
+        several = last.replace("friction", "friction 0").replace("base", last.splitlines()[2].replace("n", "n 1") + "\nbase")
+        several = several.replace("total", "total 0") + last.splitlines()[4].replace("total", "total 1") + "\n"
+        for text, dashes in ((last, ""), (turned, ""), (several, "6 4")):
+            self.assertEqual(self.plotted(text)[0][-2:], [self.line(self.TOTAL[:2], "#111111", dashes),
+                                                          self.line(self.TOTAL[1:], "#111111", "3 7")])
+
+    def test_plot_all_held(self):
+        first = MARKED_SHEET.replace("3fe0000000000000 ", "3fe0000000000000+ ").replace("3fec000000000000", "3fec000000000000+")
+        self.assertEqual(self.plotted(first)[0][:2], [self.line(self.PART, "#1b6ca8", "3 7"),
+                                                      self.line(self.FRICTION, "#c8553d")])
+        one = PAPER_SHEET.replace("3feb333333333333", "3feb333333333333+").replace("3fef0a3d70a3d70a", "3fef0a3d70a3d70a+")
+        drawn, words, _ = self.plotted(one)
+        self.assertEqual((len(drawn), sum("3 7" in line for line in drawn), len(words)), (4, 2, 1))
+
+    def test_plot_no_number(self):
+        # A NaN is no point of the line, and where no number is held no word stands.
+        text = MARKED_SHEET.replace("3fd0000000000000+", "7ff8000000000000+")
+        self.assertEqual(self.plotted(text)[0][1], self.line(self.PART[:1], "#1b6ca8", "3 7"))
+        alone = PAPER_SHEET.replace("3feb333333333333", "7ff8000000000000+").replace("3fef0a3d70a3d70a", "7ff8000000000000+")
+        self.assertEqual(self.plotted(alone)[1], [])
+
+    def test_help(self):
+        done = subprocess.run([sys.executable, str(HERE / "card.py"), "--help"], capture_output=True)
+        self.assertIn(b"A + right after a number of a sheet", done.stdout)
+
+
 class Example(unittest.TestCase):
     NAMES = ["club_rocket", "club_rocket_finishes"]
 
@@ -255,11 +368,18 @@ class Example(unittest.TestCase):
             self.assertEqual(call("plot", self.kept(name, ".sheet"))[1], self.kept(name, ".svg"))
 
     def test_same_rocket(self):
-        one, several = ({line.rsplit(b" ", 11)[0]: line.split(b" ")[-11:] for line in
+        one, several = ({line.rsplit(b" ", 12)[0]: line.split(b" ")[-12:] for line in
                          self.kept(name, ".sheet").splitlines()} for name in self.NAMES)
         for name, cells in one.items():
             name = {b"friction": b"friction 1", b"total": b"total 1"}.get(name, name)
             self.assertEqual(several[name], cells)
+
+    def test_marks(self):
+        # Mach 2 and 2.5 are beyond the tables of the nose.
+        for name in self.NAMES:
+            for line in self.kept(name, ".sheet").splitlines():
+                marks = [word.endswith(b"+") for word in line.split(b" ")[-12:]]
+                self.assertEqual(marks, [False] * 10 + [line.startswith((b"part 0", b"total"))] * 2)
 
     @unittest.skipUnless(SHEET, "SHEET doesn't name the compiled program")
     def test_program(self):

@@ -1,11 +1,13 @@
 //! Builds the original from its own source text. Nothing of that text is kept here: the items that
-//! docs/REFERENCE.md names, with the private helpers under them, are cut out of it into two modules
+//! docs/REFERENCE.md names, with the private helpers under them, are cut out of it into three modules
 //! in cargo's own output folder.
 //!
 //! - `original_plain`: the items as they stand.
 //! - `original_fixed`: the same, with calls of `ln`, `powf` and `sin` replaced by the
 //!   fixed steps (docs/REFERENCE.md, Fixed steps). `sqrt` stays, the hardware's root being the
 //!   nearest one.
+//! - `original_watched`: the same again, and `StoneyNose::value_and_slope` first tells src/watch.rs
+//!   its nose and Mach number.
 //!
 //! An item's text is kept to the letter but for three things: attributes and doc comments go
 //! (serde and thiserror are not at hand), every item, method and field is made `pub` so that
@@ -57,8 +59,13 @@ fn main() {
     let mut fixed = String::from("#[allow(unused_imports)]\nuse crate::fixed::Fixed as _;\n\n");
     fixed.push_str(&replace_calls(&plain));
     let out = PathBuf::from(env::var_os("OUT_DIR").expect("cargo sets OUT_DIR"));
-    fs::write(out.join("original_plain.rs"), plain).expect("writing into OUT_DIR");
-    fs::write(out.join("original_fixed.rs"), fixed).expect("writing into OUT_DIR");
+    for (name, text) in [
+        ("original_plain.rs", &plain),
+        ("original_watched.rs", &watch_lookups(&fixed)),
+        ("original_fixed.rs", &fixed),
+    ] {
+        fs::write(out.join(name), text).expect("writing into OUT_DIR");
+    }
 }
 
 /// The folder of the original's source, as HPR_SOURCE says or beside the repository.
@@ -108,5 +115,23 @@ fn replace_calls(text: &str) -> String {
             );
         }
     }
+    text
+}
+
+/// A table's lookup begins by telling its nose and its Mach number.
+fn watch_lookups(text: &str) -> String {
+    const TABLES: &str = "impl StoneyNose {";
+    const LOOKUP: &str = "fn value_and_slope(self, mach: f64) -> (f64, f64) {";
+    let code = code_mask(text);
+    let tables = find_code(text, &code, TABLES, 0);
+    let lookup = tables.and_then(|from| find_code(text, &code, LOOKUP, from));
+    let Some(at) = lookup else {
+        panic!("the original has no `{LOOKUP}` in its `{TABLES}`");
+    };
+    let mut text = text.to_string();
+    text.insert_str(
+        at + LOOKUP.len(),
+        "\n        crate::watch::note(self, mach);",
+    );
     text
 }

@@ -1,8 +1,9 @@
-//! The two builds of the original under the port's interface: formulas by the wrapper's `Formula`,
-//! shapes by number, curves. One text makes both, so that they can't drift apart.
+//! The builds of the original under the port's interface: formulas by the wrapper's `Formula`,
+//! shapes by number, curves. One text makes them all, so that they can't drift apart.
 //!
 //! - `fixed_steps`: the original with the fixed steps (docs/REFERENCE.md, Fixed steps), which the
-//!   port must equal.
+//!   port must equal. It is the one that is measured.
+//! - `watched`: the same with each lookup in a table noted, from which the marks come.
 //! - `plain`: the original as it stands, with the machine's own ln, exp, powf and sin.
 
 use cobalnis::Formula;
@@ -92,6 +93,18 @@ macro_rules! build {
                 }
             }
 
+            /// The shape's number and parameter, 0 where it has none.
+            pub fn of_shape(shape: NoseShape) -> (u64, f64) {
+                match shape {
+                    NoseShape::Conical {} => (0, 0.0),
+                    NoseShape::Ogive { radius_ratio } => (1, radius_ratio),
+                    NoseShape::Elliptical {} => (2, 0.0),
+                    NoseShape::PowerSeries { exponent } => (3, exponent),
+                    NoseShape::ParabolicSeries { parameter } => (4, parameter),
+                    NoseShape::Haack { parameter } => (5, parameter),
+                }
+            }
+
             /// A curve by its shape's number, `STEP` among them.
             pub fn curve(
                 shape: u64,
@@ -116,6 +129,12 @@ build!(
     /// With the fixed steps (docs/REFERENCE.md, Fixed steps).
     fixed_steps,
     original_fixed,
+    crate::fixed
+);
+build!(
+    /// With the fixed steps, each lookup in a table noted.
+    watched,
+    original_watched,
     crate::fixed
 );
 build!(

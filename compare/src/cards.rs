@@ -7,11 +7,9 @@
 //! looked at.
 
 use crate::answer_bits;
-pub use crate::builds::fixed_steps::shape_of;
-use crate::model::{
-    base_row, insert, open, total_row, Column, Part, Settings, Sheet, COLUMNS, FINISHES, FRICTION,
-};
-use crate::original_fixed::NoseShape;
+pub use crate::builds::fixed_steps::{of_shape, shape_of};
+use crate::model::{base_row, insert, open, total_row, COLUMNS, FINISHES, FRICTION};
+use crate::model::{Buffers, Column, Part, Settings, Sheet};
 
 /// "bytes end inside a card", or before it.
 const ENDED: u8 = 4;
@@ -139,18 +137,6 @@ fn part_card(bytes: &mut Bytes) -> Result<Part, u8> {
     })
 }
 
-/// The shape's number and parameter, 0 where it has none.
-pub fn of_shape(shape: NoseShape) -> (u64, f64) {
-    match shape {
-        NoseShape::Conical {} => (0, 0.0),
-        NoseShape::Ogive { radius_ratio } => (1, radius_ratio),
-        NoseShape::Elliptical {} => (2, 0.0),
-        NoseShape::PowerSeries { exponent } => (3, exponent),
-        NoseShape::ParabolicSeries { parameter } => (4, parameter),
-        NoseShape::Haack { parameter } => (5, parameter),
-    }
-}
-
 /// A settings card from the byte `at` on, and where it ends; a place past the end has no bytes.
 pub fn read_settings(bytes: &[u8], at: usize) -> Result<(Settings, usize), u8> {
     let mut left = Bytes(bytes.get(at..).unwrap_or_default());
@@ -180,9 +166,9 @@ const NO_CARD: Settings = Settings {
     }; COLUMNS],
 };
 
-/// A sheet with its cells out of a stream: one settings card, then part cards until the bytes end,
-/// each inserted last before the next is read.
-pub fn stack(stream: &[u8]) -> Result<(Sheet, Vec<f64>), Refused> {
+/// A sheet with its cells and marks out of a stream: one settings card, then part cards until the
+/// bytes end, each inserted last before the next is read.
+pub fn stack(stream: &[u8]) -> Result<(Sheet, Buffers), Refused> {
     let mut bytes = Bytes(stream);
     let mut card = 0;
     let settings = if stream.is_empty() {
@@ -190,33 +176,34 @@ pub fn stack(stream: &[u8]) -> Result<(Sheet, Vec<f64>), Refused> {
     } else {
         settings_card(&mut bytes).map_err(|number| Refused { number, card })?
     };
-    let mut cells = vec![0.0; settings.cells()];
-    let (mut answer, mut sheet) = open(&settings, &mut cells);
+    let mut held = Buffers::new(settings.cells());
+    let (mut answer, mut sheet) = open(&settings, held.lend());
     while answer.refusal == 0 && !bytes.0.is_empty() {
         card += 1;
         let part = part_card(&mut bytes).map_err(|number| Refused { number, card })?;
-        (answer, sheet) = insert(&sheet, sheet.design.count, &part, &mut cells);
+        (answer, sheet) = insert(&sheet, sheet.design.count, &part, held.lend());
     }
     if answer.refusal == 0 {
-        Ok((sheet, cells))
+        Ok((sheet, held))
     } else {
         let number = answer.refusal;
         Err(Refused { number, card })
     }
 }
 
-/// "A line is a name, then per column a space and the bits."
-fn line(name: &str, row: &[f64]) -> String {
+/// "A line is a name, then per column a space and the bits"; "`+` right after a marked cell".
+fn line(name: &str, row: &[f64], marks: &[u8]) -> String {
     let mut text = name.to_string();
-    for &cell in row {
-        text += &format!(" {:016x}", answer_bits(cell));
+    for (&cell, &mark) in row.iter().zip(marks) {
+        let sign = if mark == 0 { "" } else { "+" };
+        text += &format!(" {:016x}{sign}", answer_bits(cell));
     }
     text + "\n"
 }
 
 /// "The Machs, the design's part rows, friction, base, total"; with several finishes "`friction j`
-/// and `total j`, j from 0".
-pub fn lines(sheet: &Sheet, cells: &[f64]) -> String {
+/// and `total j`, j from 0". A Mach has no mark.
+pub fn lines(sheet: &Sheet, held: &Buffers) -> String {
     let Settings {
         finishes, count, ..
     } = sheet.settings;
@@ -224,21 +211,21 @@ pub fn lines(sheet: &Sheet, cells: &[f64]) -> String {
         1 => name.to_string(),
         _ => format!("{name} {finish}"),
     };
-    let row = |number: usize| &cells[number * count..(number + 1) * count];
+    let row = |name: &str, number: usize| {
+        let at = number * count..(number + 1) * count;
+        line(name, &held.cells[at.clone()], &held.marks[at])
+    };
     let machs: Vec<f64> = sheet.settings.columns().iter().map(|c| c.mach).collect();
-    let mut text = line("mach", &machs);
+    let mut text = line("mach", &machs, &[0; COLUMNS]);
     for place in 0..sheet.design.count {
-        text += &line(&format!("part {place}"), row(place));
+        text += &row(&format!("part {place}"), place);
     }
     for finish in 0..finishes {
-        text += &line(&of_finish("friction", finish), row(FRICTION + finish));
+        text += &row(&of_finish("friction", finish), FRICTION + finish);
     }
-    text += &line("base", row(base_row(finishes)));
+    text += &row("base", base_row(finishes));
     for finish in 0..finishes {
-        text += &line(
-            &of_finish("total", finish),
-            row(total_row(finishes) + finish),
-        );
+        text += &row(&of_finish("total", finish), total_row(finishes) + finish);
     }
     text
 }
@@ -246,7 +233,7 @@ pub fn lines(sheet: &Sheet, cells: &[f64]) -> String {
 /// What `sheet` prints for a stream, and the number of the refusal (0 accepted).
 pub fn printed(stream: &[u8]) -> (String, u8) {
     match stack(stream) {
-        Ok((sheet, cells)) => (lines(&sheet, &cells), 0),
+        Ok((sheet, held)) => (lines(&sheet, &held), 0),
         Err(Refused { number, card }) => (format!("refused {number} card {card}\n"), number),
     }
 }

@@ -13,12 +13,20 @@ pub mod model;
 pub mod refusals;
 pub mod side;
 pub mod streams;
+pub mod watch;
 
 /// The original with ln, powf and sin replaced by the fixed steps (docs/REFERENCE.md, Fixed steps).
 #[allow(dead_code, unreachable_patterns)]
 #[rustfmt::skip]
 pub mod original_fixed {
     include!(concat!(env!("OUT_DIR"), "/original_fixed.rs"));
+}
+
+/// The same with each lookup in a table noted (`watch`).
+#[allow(dead_code, unreachable_patterns)]
+#[rustfmt::skip]
+pub mod original_watched {
+    include!(concat!(env!("OUT_DIR"), "/original_watched.rs"));
 }
 
 /// The original as it stands.

@@ -1,6 +1,7 @@
 //! The original and the models behind `extern "C"` functions with the port's signatures, for
 //! measuring: either side then pays the same call. They are in this package's library and never
-//! inlined into their caller, while what they call may be inlined into them.
+//! inlined into their caller, while what they call may be inlined into them. The original has no
+//! marks: those lent are left as they are, and a lookup's is 0.
 //!
 //! # Safety
 //!
@@ -13,7 +14,8 @@ use std::slice::{from_raw_parts, from_raw_parts_mut};
 
 use cobalnis::words::{PartWords, SheetWords};
 
-use crate::mirror;
+use crate::mirror::{self, measured};
+use crate::model::Lent;
 
 #[inline(never)]
 pub unsafe extern "C" fn formula(
@@ -31,9 +33,9 @@ pub unsafe extern "C" fn formula(
 }
 
 #[inline(never)]
-pub unsafe extern "C" fn nose_lookup(nose: u32, mach: f64, out: *mut [u64; 3]) -> u32 {
-    let (status, answer) = mirror::nose_lookup(nose, mach);
-    *out = answer;
+pub unsafe extern "C" fn nose_lookup(nose: u32, mach: f64, out: *mut [u64; 4]) -> u32 {
+    let (status, [value, slope, first]) = measured::nose_lookup(nose, mach);
+    *out = [value, slope, first, 0];
     status
 }
 
@@ -63,13 +65,20 @@ pub unsafe extern "C" fn curve(
     n: usize,
     out: *mut u64,
     m: usize,
+    _marks: *mut u8,
+    _mark_count: usize,
     about: *mut [u64; 3],
 ) -> u32 {
     let arguments = [parameter, fineness_ratio, joint_angle_rad];
     let (machs, out) = (from_raw_parts(machs, n), from_raw_parts_mut(out, m));
-    let (status, answer) = mirror::curve(shape, arguments, machs, out);
+    let (status, answer) = measured::curve(shape, arguments, machs, out);
     *about = answer;
     status
+}
+
+/// Cells alone.
+unsafe fn lent<'a>(cells: *mut f64, cell_count: usize) -> Lent<'a> {
+    Lent::measured(from_raw_parts_mut(cells, cell_count))
 }
 
 #[inline(never)]
@@ -77,9 +86,11 @@ pub unsafe extern "C" fn open(
     sheet: *mut SheetWords,
     cells: *mut f64,
     cell_count: usize,
+    _marks: *mut u8,
+    _mark_count: usize,
     bits: *mut u64,
 ) -> u32 {
-    let (status, answer) = mirror::open(&mut *sheet, from_raw_parts_mut(cells, cell_count));
+    let (status, answer) = mirror::open(&mut *sheet, lent(cells, cell_count));
     *bits = answer;
     status
 }
@@ -91,10 +102,12 @@ pub unsafe extern "C" fn insert(
     part: *const PartWords,
     cells: *mut f64,
     cell_count: usize,
+    _marks: *mut u8,
+    _mark_count: usize,
     bits: *mut u64,
 ) -> u32 {
-    let cells = from_raw_parts_mut(cells, cell_count);
-    let (status, answer) = mirror::insert(&mut *sheet, place, &*part, cells);
+    let lent = lent(cells, cell_count);
+    let (status, answer) = mirror::insert(&mut *sheet, place, &*part, lent);
     *bits = answer;
     status
 }
@@ -106,10 +119,12 @@ pub unsafe extern "C" fn replace(
     part: *const PartWords,
     cells: *mut f64,
     cell_count: usize,
+    _marks: *mut u8,
+    _mark_count: usize,
     bits: *mut u64,
 ) -> u32 {
-    let cells = from_raw_parts_mut(cells, cell_count);
-    let (status, answer) = mirror::replace(&mut *sheet, place, &*part, cells);
+    let lent = lent(cells, cell_count);
+    let (status, answer) = mirror::replace(&mut *sheet, place, &*part, lent);
     *bits = answer;
     status
 }
@@ -120,10 +135,12 @@ pub unsafe extern "C" fn remove(
     place: usize,
     cells: *mut f64,
     cell_count: usize,
+    _marks: *mut u8,
+    _mark_count: usize,
     bits: *mut u64,
 ) -> u32 {
-    let cells = from_raw_parts_mut(cells, cell_count);
-    let (status, answer) = mirror::remove(&mut *sheet, place, cells);
+    let lent = lent(cells, cell_count);
+    let (status, answer) = mirror::remove(&mut *sheet, place, lent);
     *bits = answer;
     status
 }
@@ -136,10 +153,12 @@ pub unsafe extern "C" fn set_column(
     reynolds: f64,
     cells: *mut f64,
     cell_count: usize,
+    _marks: *mut u8,
+    _mark_count: usize,
     bits: *mut u64,
 ) -> u32 {
-    let cells = from_raw_parts_mut(cells, cell_count);
-    let (status, answer) = mirror::set_column(&mut *sheet, column, mach, reynolds, cells);
+    let lent = lent(cells, cell_count);
+    let (status, answer) = mirror::set_column(&mut *sheet, column, mach, reynolds, lent);
     *bits = answer;
     status
 }
@@ -150,10 +169,12 @@ pub unsafe extern "C" fn ignite(
     nozzle_diameter: f64,
     cells: *mut f64,
     cell_count: usize,
+    _marks: *mut u8,
+    _mark_count: usize,
     bits: *mut u64,
 ) -> u32 {
-    let cells = from_raw_parts_mut(cells, cell_count);
-    let (status, answer) = mirror::ignite(&mut *sheet, nozzle_diameter, cells);
+    let lent = lent(cells, cell_count);
+    let (status, answer) = mirror::ignite(&mut *sheet, nozzle_diameter, lent);
     *bits = answer;
     status
 }
@@ -163,9 +184,11 @@ pub unsafe extern "C" fn burnout(
     sheet: *mut SheetWords,
     cells: *mut f64,
     cell_count: usize,
+    _marks: *mut u8,
+    _mark_count: usize,
     bits: *mut u64,
 ) -> u32 {
-    let (status, answer) = mirror::burnout(&mut *sheet, from_raw_parts_mut(cells, cell_count));
+    let (status, answer) = mirror::burnout(&mut *sheet, lent(cells, cell_count));
     *bits = answer;
     status
 }

@@ -6,12 +6,14 @@
 //! may be any sheet at all, so the counts stand beside arrays that have room for what a sheet can
 //! have.
 
+mod lent;
 mod rows;
 
 use crate::original_fixed::{
     body_friction_form_factor, check_dimension, check_mach_any, AeroError, NoseShape,
 };
 use crate::refusals::Answer;
+pub use lent::{Buffers, Lent};
 use rows::{write, write_all, write_base};
 
 /// "C columns (0 to 32)", "0 to 16 parts".
@@ -97,7 +99,7 @@ impl Settings {
         &self.columns[..self.count]
     }
 
-    /// "(17 + 2 × F) × C" cells; F and C are tested.
+    /// "(17 + 2 × F) × C" cells, and as many marks; F and C are tested.
     pub fn cells(&self) -> usize {
         rows(self.finishes) * self.count
     }
@@ -136,8 +138,8 @@ fn test_column(column: Column) -> Result<(), Refusal> {
 }
 
 /// "Open: 7, 11 for D, then roughness, 1 for B, 1 for each column (M, R), 10", with 19 "after D and
-/// before 11 for any roughness".
-fn test_settings(settings: &Settings, cell_count: usize) -> Result<(), Refusal> {
+/// before 11 for any roughness"; "fewer" marks "is 10 too".
+fn test_settings(settings: &Settings, room: usize) -> Result<(), Refusal> {
     if settings.count > COLUMNS {
         return Err(Answer::refused(7));
     }
@@ -152,7 +154,7 @@ fn test_settings(settings: &Settings, cell_count: usize) -> Result<(), Refusal> 
     for &column in settings.columns() {
         test_column(column)?;
     }
-    if cell_count < settings.cells() {
+    if room < settings.cells() {
         return Err(Answer::refused(10));
     }
     Ok(())
@@ -174,8 +176,8 @@ fn test_nozzle(nozzle_diameter: f64) -> Result<(), Refusal> {
 /// "Edits and set column first test the sheet given: its settings as at open (10 last), 9 for a
 /// count above 16, 11 for held L, d, w by place", and for a held roughness after w; a held n
 /// "right after 10".
-fn test_sheet(sheet: &Sheet, cell_count: usize) -> Result<(), Refusal> {
-    test_settings(&sheet.settings, cell_count)?;
+fn test_sheet(sheet: &Sheet, room: usize) -> Result<(), Refusal> {
+    test_settings(&sheet.settings, room)?;
     test_nozzle(sheet.nozzle_diameter)?;
     if sheet.design.count > PLACES {
         return Err(Answer::refused(9));
@@ -190,7 +192,7 @@ fn test_sheet(sheet: &Sheet, cell_count: usize) -> Result<(), Refusal> {
 
 /// Open: no parts yet, and it "starts coasting". A refused one hands back its settings and no parts
 /// as well.
-pub fn open(settings: &Settings, cells: &mut [f64]) -> (Answer, Sheet) {
+pub fn open(settings: &Settings, mut lent: Lent) -> (Answer, Sheet) {
     let sheet = Sheet {
         settings: *settings,
         nozzle_diameter: 0.0,
@@ -199,8 +201,8 @@ pub fn open(settings: &Settings, cells: &mut [f64]) -> (Answer, Sheet) {
             parts: [NO_PART; PLACES],
         },
     };
-    match test_settings(settings, cells.len()) {
-        Ok(()) => (write_all(&sheet, cells), sheet),
+    match test_settings(settings, lent.room()) {
+        Ok(()) => (write_all(&sheet, &mut lent), sheet),
         Err(refusal) => (refusal, sheet),
     }
 }
@@ -211,9 +213,9 @@ fn handed_back(answer: Answer, given: &Sheet, after: Sheet) -> (Answer, Sheet) {
 }
 
 /// Replace: "only the rows named": its own, the next part's, each friction, base and each total.
-pub fn replace(sheet: &Sheet, place: usize, part: &Part, cells: &mut [f64]) -> (Answer, Sheet) {
+pub fn replace(sheet: &Sheet, place: usize, part: &Part, mut lent: Lent) -> (Answer, Sheet) {
     let test = || {
-        test_sheet(sheet, cells.len())?;
+        test_sheet(sheet, lent.room())?;
         if place >= sheet.design.count {
             return Err(Answer::refused(8));
         }
@@ -229,15 +231,15 @@ pub fn replace(sheet: &Sheet, place: usize, part: &Part, cells: &mut [f64]) -> (
         places.push(place + 1);
     }
     let columns: Vec<usize> = (0..sheet.settings.count).collect();
-    let answer = write(&after, &places, &columns, cells);
+    let answer = write(&after, &places, &columns, &mut lent);
     handed_back(answer, sheet, after)
 }
 
 /// Insert: the parts from that place on move up one; all rows are written.
-pub fn insert(sheet: &Sheet, place: usize, part: &Part, cells: &mut [f64]) -> (Answer, Sheet) {
+pub fn insert(sheet: &Sheet, place: usize, part: &Part, mut lent: Lent) -> (Answer, Sheet) {
     let count = sheet.design.count;
     let test = || {
-        test_sheet(sheet, cells.len())?;
+        test_sheet(sheet, lent.room())?;
         if place > count {
             return Err(Answer::refused(8));
         }
@@ -255,14 +257,14 @@ pub fn insert(sheet: &Sheet, place: usize, part: &Part, cells: &mut [f64]) -> (A
         after.design.parts[i + 1] = sheet.design.parts[i];
     }
     after.design.parts[place] = *part;
-    let answer = write_all(&after, cells);
+    let answer = write_all(&after, &mut lent);
     handed_back(answer, sheet, after)
 }
 
 /// Remove: the parts after it move down one; all rows are written.
-pub fn remove(sheet: &Sheet, place: usize, cells: &mut [f64]) -> (Answer, Sheet) {
+pub fn remove(sheet: &Sheet, place: usize, mut lent: Lent) -> (Answer, Sheet) {
     let count = sheet.design.count;
-    if let Err(refusal) = test_sheet(sheet, cells.len()) {
+    if let Err(refusal) = test_sheet(sheet, lent.room()) {
         return (refusal, *sheet);
     }
     if place >= count {
@@ -273,14 +275,14 @@ pub fn remove(sheet: &Sheet, place: usize, cells: &mut [f64]) -> (Answer, Sheet)
     for i in place + 1..count {
         after.design.parts[i - 1] = sheet.design.parts[i];
     }
-    let answer = write_all(&after, cells);
+    let answer = write_all(&after, &mut lent);
     handed_back(answer, sheet, after)
 }
 
 /// Set column: every place at the new column alone.
-pub fn set_column(sheet: &Sheet, column: usize, new: Column, cells: &mut [f64]) -> (Answer, Sheet) {
+pub fn set_column(sheet: &Sheet, column: usize, new: Column, mut lent: Lent) -> (Answer, Sheet) {
     let test = || {
-        test_sheet(sheet, cells.len())?;
+        test_sheet(sheet, lent.room())?;
         if column >= sheet.settings.count {
             return Err(Answer::refused(8));
         }
@@ -292,14 +294,14 @@ pub fn set_column(sheet: &Sheet, column: usize, new: Column, cells: &mut [f64]) 
     let mut after = *sheet;
     after.settings.columns[column] = new;
     let places: Vec<usize> = (0..PLACES).collect();
-    let answer = write(&after, &places, &[column], cells);
+    let answer = write(&after, &places, &[column], &mut lent);
     handed_back(answer, sheet, after)
 }
 
 /// Ignite: "gives n", its own test last; base and totals are written.
-pub fn ignite(sheet: &Sheet, nozzle_diameter: f64, cells: &mut [f64]) -> (Answer, Sheet) {
+pub fn ignite(sheet: &Sheet, nozzle_diameter: f64, mut lent: Lent) -> (Answer, Sheet) {
     let test = || {
-        test_sheet(sheet, cells.len())?;
+        test_sheet(sheet, lent.room())?;
         test_nozzle(nozzle_diameter)
     };
     if let Err(refusal) = test() {
@@ -309,21 +311,22 @@ pub fn ignite(sheet: &Sheet, nozzle_diameter: f64, cells: &mut [f64]) -> (Answer
         nozzle_diameter,
         ..*sheet
     };
-    write_base(&after, cells);
+    write_base(&after, &mut lent);
     (Answer::accepted(0), after)
 }
 
 /// Burnout: "puts it back to 0"; base and totals are written.
-pub fn burnout(sheet: &Sheet, cells: &mut [f64]) -> (Answer, Sheet) {
-    ignite(sheet, 0.0, cells)
+pub fn burnout(sheet: &Sheet, lent: Lent) -> (Answer, Sheet) {
+    ignite(sheet, 0.0, lent)
 }
 
-/// A build from nothing: the rows of a sheet into cells of +0, or the refusal of the lowest place.
-pub fn build(sheet: &Sheet) -> Result<Vec<f64>, Answer> {
-    let mut cells = vec![0.0; sheet.settings.cells()];
-    let answer = write_all(sheet, &mut cells);
+/// A build from nothing: the rows of a sheet into cells of +0 and marks of 0, or the refusal of the
+/// lowest place.
+pub fn build(sheet: &Sheet) -> Result<Buffers, Answer> {
+    let mut built = Buffers::new(sheet.settings.cells());
+    let answer = write_all(sheet, &mut built.lend());
     if answer.refusal == 0 {
-        Ok(cells)
+        Ok(built)
     } else {
         Err(answer)
     }

@@ -2,7 +2,7 @@
 //! an answer with them.
 
 use crate::answer_bits;
-use crate::{original_fixed, original_plain};
+use crate::{original_fixed, original_plain, original_watched};
 
 /// The code (docs/REFERENCE.md, Codes) of each of the Rust's `what` texts, 1 to 22 in order.
 pub const CODES: [&str; 22] = [
@@ -106,22 +106,21 @@ impl Answer {
     }
 }
 
-impl From<original_fixed::AeroError> for Answer {
-    #[cold]
-    fn from(error: original_fixed::AeroError) -> Self {
-        match error {
-            original_fixed::AeroError::Domain { what, value } => Self::domain(what, value),
-            original_fixed::AeroError::Unsupported(text) => Self::unsupported(&text),
-        }
-    }
+/// The errors of a build of the original as answers.
+macro_rules! errors_of {
+    ($($original:ident),*) => {
+        $(
+            impl From<$original::AeroError> for Answer {
+                #[cold]
+                fn from(error: $original::AeroError) -> Self {
+                    match error {
+                        $original::AeroError::Domain { what, value } => Self::domain(what, value),
+                        $original::AeroError::Unsupported(text) => Self::unsupported(&text),
+                    }
+                }
+            }
+        )*
+    };
 }
 
-impl From<original_plain::AeroError> for Answer {
-    #[cold]
-    fn from(error: original_plain::AeroError) -> Self {
-        match error {
-            original_plain::AeroError::Domain { what, value } => Self::domain(what, value),
-            original_plain::AeroError::Unsupported(text) => Self::unsupported(&text),
-        }
-    }
-}
+errors_of!(original_fixed, original_watched, original_plain);

@@ -54,7 +54,7 @@ fn the_papers_cards() {
 fn no_bytes() {
     assert_eq!(text(""), "mach\nfriction\nbase\ntotal\n");
     assert_eq!(text(""), text("05 one one"));
-    let (sheet, cells) = stack(&[]).expect("accepted");
+    let (sheet, held) = stack(&[]).expect("accepted");
     let settings = &sheet.settings;
     assert_eq!(settings.reference_diameter, 1.0);
     assert_eq!(
@@ -62,7 +62,8 @@ fn no_bytes() {
         (1, 0)
     );
     assert_eq!(settings.body_fineness, 1.0);
-    assert_eq!((settings.count, sheet.design.count, cells.len()), (0, 0, 0));
+    let cells = held.cells.len();
+    assert_eq!((settings.count, sheet.design.count, cells), (0, 0, 0));
     assert_eq!(read_settings(&[], 0).err(), Some(4));
     assert_eq!(read_part(&[], 0).err(), Some(4));
 }

@@ -52,8 +52,8 @@ fn share(roughness: f64) -> f64 {
 }
 
 /// A flat face, a tube of its own roughness and a narrowing tail, in columns that are all `COLUMN`.
-fn rocket(finishes: usize, count: usize, cells: &mut [f64]) -> Sheet {
-    let (answer, mut sheet) = open(&settings(finishes, count), cells);
+fn rocket(finishes: usize, count: usize, held: &mut Buffers) -> Sheet {
+    let (answer, mut sheet) = open(&settings(finishes, count), held.lend());
     assert_eq!(answer.refusal, 0);
     let parts = [
         part(1.0, 8.0, None),
@@ -61,7 +61,7 @@ fn rocket(finishes: usize, count: usize, cells: &mut [f64]) -> Sheet {
         part(0.5, 2.0, None),
     ];
     for (place, part) in parts.iter().enumerate() {
-        let (answer, after) = insert(&sheet, place, part, cells);
+        let (answer, after) = insert(&sheet, place, part, held.lend());
         assert_eq!(answer.refusal, 0);
         sheet = after;
     }
@@ -73,14 +73,14 @@ fn rocket(finishes: usize, count: usize, cells: &mut [f64]) -> Sheet {
 fn rows_by_hand() {
     for finishes in 1..=FINISHES {
         let count = 2;
-        let mut cells = vec![f64::NAN; rows(finishes) * count + 1];
-        let sheet = rocket(finishes, count, &mut cells);
+        let mut held = Buffers::of(rows(finishes) * count + 1, f64::NAN, 7);
+        let sheet = rocket(finishes, count, &mut held);
         assert_eq!(sheet.settings.cells(), (17 + 2 * finishes) * count);
-        let (_, sheet) = ignite(&sheet, 0.25, &mut cells);
+        let (_, sheet) = ignite(&sheet, 0.25, held.lend());
         let base_drag = 0.12 + 0.13 * 0.5 * 0.5;
         let base = base_drag * (0.5 * 0.5 - 0.25 * 0.25);
         let tail = base_drag * (1.0 * 1.0 - 0.5 * 0.5);
-        let face = cells[0];
+        let face = held.cells[0];
         let mut wanted = vec![0.0; PLACES];
         (wanted[0], wanted[2]) = (face, tail);
         let frictions: Vec<f64> = ROUGHNESSES[..finishes]
@@ -95,13 +95,13 @@ fn rows_by_hand() {
                 .map(|friction| ((face + tail) + friction) + base),
         );
         for column in 0..count {
-            let row = |row: usize| cells[row * count + column].to_bits();
+            let row = |row: usize| held.cells[row * count + column].to_bits();
             for (at, cell) in wanted.iter().enumerate() {
                 assert_eq!(row(at), cell.to_bits(), "row {at} of {finishes}");
             }
         }
         assert_eq!(wanted.len(), rows(finishes));
-        assert!(cells[rows(finishes) * count].is_nan());
+        assert!(held.cells[rows(finishes) * count].is_nan());
         assert_eq!(sheet.settings.finishes, finishes);
     }
 }
@@ -114,7 +114,7 @@ fn frictions_differ() {
 }
 
 /// One of many calls, the same on any sheet.
-fn any_call(random: &mut Random) -> impl Fn(&Sheet, &mut [f64]) -> (Answer, Sheet) {
+fn any_call(random: &mut Random) -> impl Fn(&Sheet, Lent) -> (Answer, Sheet) {
     let place = (random.bits() % 6) as usize;
     let own = random.scaled(1e-6, 1e-2);
     let new = Part {
@@ -132,13 +132,13 @@ fn any_call(random: &mut Random) -> impl Fn(&Sheet, &mut [f64]) -> (Answer, Shee
     };
     let n = random.pick(&[0.25, 0.5, 1.0, -0.0, 101.0]);
     let kind = random.bits() % 10;
-    move |sheet, cells| match kind {
-        0..=2 => insert(sheet, place, &new, cells),
-        3..=4 => replace(sheet, place, &new, cells),
-        5 => remove(sheet, place, cells),
-        6..=7 => set_column(sheet, place, column, cells),
-        8 => ignite(sheet, n, cells),
-        _ => burnout(sheet, cells),
+    move |sheet, lent| match kind {
+        0..=2 => insert(sheet, place, &new, lent),
+        3..=4 => replace(sheet, place, &new, lent),
+        5 => remove(sheet, place, lent),
+        6..=7 => set_column(sheet, place, column, lent),
+        8 => ignite(sheet, n, lent),
+        _ => burnout(sheet, lent),
     }
 }
 
@@ -149,34 +149,34 @@ fn each_finish_as_alone() {
     let mut random = Random::new(12);
     for finishes in 1..=FINISHES {
         let count = 3;
-        let mut cells = vec![f64::NAN; rows(finishes) * count];
-        let (_, mut sheet) = open(&settings(finishes, count), &mut cells);
+        let mut held = Buffers::of(rows(finishes) * count, f64::NAN, 7);
+        let (_, mut sheet) = open(&settings(finishes, count), held.lend());
         let mut alone = Vec::new();
         for &roughness in &ROUGHNESSES[..finishes] {
             let mut one = settings(1, count);
             one.roughnesses[0] = roughness;
-            let mut cells = vec![f64::NAN; rows(1) * count];
-            alone.push((open(&one, &mut cells).1, cells));
+            let mut lent = Buffers::of(rows(1) * count, f64::NAN, 7);
+            alone.push((open(&one, lent.lend()).1, lent));
         }
         let mut accepted = 0;
         for _ in 0..300 {
             let call = any_call(&mut random);
-            let (answer, after) = call(&sheet, &mut cells);
+            let (answer, after) = call(&sheet, held.lend());
             (sheet, accepted) = (after, accepted + usize::from(answer.refusal == 0));
             let built = build(&sheet).expect("an accepted sheet");
-            assert_eq!(bits(&cells), bits(&built));
+            assert_eq!(bits(&held.cells), bits(&built.cells));
             for (finish, (one, lent)) in alone.iter_mut().enumerate() {
-                let (other, after) = call(one, lent);
+                let (other, after) = call(one, lent.lend());
                 assert_eq!(other, answer);
                 *one = after;
-                let row = |cells: &[f64], row: usize| bits(&cells[row * count..][..count]);
-                assert_eq!(row(&cells, FRICTION + finish), row(lent, FRICTION));
+                let row = |held: &Buffers, row: usize| bits(&held.cells[row * count..][..count]);
+                assert_eq!(row(&held, FRICTION + finish), row(lent, FRICTION));
                 let total = total_row(finishes) + finish;
-                assert_eq!(row(&cells, total), row(lent, total_row(1)));
-                assert_eq!(row(&cells, base_row(finishes)), row(lent, base_row(1)));
+                assert_eq!(row(&held, total), row(lent, total_row(1)));
+                assert_eq!(row(&held, base_row(finishes)), row(lent, base_row(1)));
                 assert_eq!(
-                    bits(&cells[..PLACES * count]),
-                    bits(&lent[..PLACES * count])
+                    bits(&held.cells[..PLACES * count]),
+                    bits(&lent.cells[..PLACES * count])
                 );
             }
         }
@@ -187,11 +187,12 @@ fn each_finish_as_alone() {
 /// A replace leaves cells that somebody else wrote, and each total adds them.
 #[test]
 fn foreign_cells() {
-    let mut cells = vec![0.0; rows(3)];
-    let sheet = rocket(3, 1, &mut cells);
-    let before = cells.clone();
-    cells[7] = 32.0;
-    let (_, _) = replace(&sheet, 0, &sheet.design.parts[0], &mut cells);
+    let mut held = Buffers::new(rows(3));
+    let sheet = rocket(3, 1, &mut held);
+    let before = held.cells.clone();
+    held.cells[7] = 32.0;
+    replace(&sheet, 0, &sheet.design.parts[0], held.lend());
+    let cells = &held.cells;
     for finish in 0..3 {
         let at = total_row(3) + finish;
         let parts = (before[0] + before[2]) + 32.0;
@@ -201,9 +202,10 @@ fn foreign_cells() {
         );
     }
     // Ignite writes base and totals alone: a friction that somebody wrote is summed in its finish.
-    cells[FRICTION + 1] = 64.0;
-    let kept = cells.clone();
-    ignite(&sheet, 0.25, &mut cells);
+    held.cells[FRICTION + 1] = 64.0;
+    let kept = held.cells.clone();
+    ignite(&sheet, 0.25, held.lend());
+    let cells = &held.cells;
     assert_eq!(bits(&cells[..base_row(3)]), bits(&kept[..base_row(3)]));
     let total = |finish: usize| cells[total_row(3) + finish];
     assert!(total(1) > 64.0 && total(0) < 64.0 && total(2) < 64.0);
@@ -211,27 +213,25 @@ fn foreign_cells() {
 
 /// What open and each other call answers with these settings in the sheet, arguments refused too.
 fn answers(settings: &Settings, cell_count: usize) -> [u8; 7] {
-    let mut lent = vec![0.0; rows(FINISHES)];
-    let mut sheet = rocket(1, 1, &mut lent);
+    let mut sheet = rocket(1, 1, &mut Buffers::new(rows(1)));
     sheet.settings = *settings;
     sheet.nozzle_diameter = -1.0;
     sheet.design.count = 17;
-    let cells = &mut lent[..cell_count];
+    let mut held = Buffers::of(cell_count, 1.0, 2);
     let long = Part {
         length: 101.0,
         ..NO_PART
     };
-    let before = bits(cells);
     let answers = [
-        open(settings, cells).0,
-        replace(&sheet, 99, &long, cells).0,
-        insert(&sheet, 99, &long, cells).0,
-        remove(&sheet, 99, cells).0,
-        set_column(&sheet, 99, COLUMN, cells).0,
-        ignite(&sheet, f64::NAN, cells).0,
-        burnout(&sheet, cells).0,
+        open(settings, held.lend()).0,
+        replace(&sheet, 99, &long, held.lend()).0,
+        insert(&sheet, 99, &long, held.lend()).0,
+        remove(&sheet, 99, held.lend()).0,
+        set_column(&sheet, 99, COLUMN, held.lend()).0,
+        ignite(&sheet, f64::NAN, held.lend()).0,
+        burnout(&sheet, held.lend()).0,
     ];
-    assert_eq!(bits(cells), before);
+    assert_eq!(held, Buffers::of(cell_count, 1.0, 2));
     answers.map(|answer| answer.refusal)
 }
 
@@ -269,29 +269,30 @@ fn each_roughness() {
             for bad in [1.5, -1.0, f64::NAN, 1.0f64.next_up(), -f64::from_bits(1)] {
                 let mut given = settings(finishes, 0);
                 given.roughnesses[at] = bad;
-                let answer = open(&given, &mut []).0.refusal;
+                let answer = open(&given, Buffers::new(0).lend()).0.refusal;
                 assert_eq!(answer, if at < finishes { 11 } else { 0 });
             }
             for good in [0.0, -0.0, 1.0] {
                 let mut given = settings(finishes, 0);
                 given.roughnesses[at] = good;
-                assert_eq!(open(&given, &mut []).0.refusal, 0);
+                assert_eq!(open(&given, Buffers::new(0).lend()).0.refusal, 0);
             }
         }
     }
 }
 
-/// (17 + 2 × F) × C cells are enough and one fewer are not.
+/// (17 + 2 × F) × C cells and as many marks are enough, and one fewer of either are not.
 #[test]
 fn cells_needed() {
     for finishes in 1..=FINISHES {
         for count in [0, 1, 32] {
             let enough = (17 + 2 * finishes) * count;
-            let mut cells = vec![0.0; enough];
+            let mut held = Buffers::new(enough);
             let given = settings(finishes, count);
-            assert_eq!(open(&given, &mut cells).0.refusal, 0);
+            assert_eq!(open(&given, held.lend()).0.refusal, 0);
             if count > 0 {
-                assert_eq!(open(&given, &mut cells[1..]).0.refusal, 10);
+                let mut few = |cells, marks| open(&given, held.lend_first(cells, marks)).0.refusal;
+                assert_eq!([few(enough - 1, enough), few(enough, enough - 1)], [10; 2]);
             }
         }
     }

@@ -1,7 +1,7 @@
 //! A short run of the port against the original: nothing disagrees, what is asked meets every
 //! refusal that a function can give, at least half of the parts have a roughness of their own, at
-//! least a third of the edits leave a burning sheet, and at least half of the sheets have more than
-//! one finish. The long run is the program `side_by_side`.
+//! least a third of the edits leave a burning sheet, at least half of the sheets have more than one
+//! finish, and at least a tenth of the answers that can have a mark have one. The long run is the program `side_by_side`.
 
 use compare::inputs::Random;
 use compare::side::tally::Row;
@@ -60,12 +60,27 @@ fn often_several(row: &Row) {
     assert!(finishes.iter().all(|&n| n > 100), "{}", row.name());
 }
 
+/// At least a tenth of a row's accepted answers have a mark, and not all; or none has, where none can.
+fn marked(row: &Row, can: bool) {
+    let [marked, unmarked] = row.marks();
+    assert_eq!(marked + unmarked, row.seen(0), "{}", row.name());
+    if can {
+        assert!(unmarked <= 9 * marked, "{}: {marked}", row.name());
+        assert!(unmarked > 100, "{}: {unmarked}", row.name());
+    } else {
+        assert_eq!(marked, 0, "{}", row.name());
+    }
+}
+
 #[test]
 fn all_noses() {
     let random = &mut Random::new(2);
     agrees(&formulas::nose_point(COUNT, random), &[0, 8]);
     for row in formulas::nose_lookup(COUNT, random) {
         agrees(&row, &[0]);
+        if row.name().ends_with("mark") {
+            marked(&row, true);
+        }
     }
 }
 
@@ -84,6 +99,10 @@ fn all_curves() {
             _ => &[0, 1],
         };
         agrees(&row, own);
+        if !row.name().contains("::new") {
+            let none = ["conical", "ogive", "step"];
+            marked(&row, !none.iter().any(|shape| row.name().contains(shape)));
+        }
     }
 }
 
@@ -98,6 +117,7 @@ fn all_calls() {
         };
         agrees(&row, met);
         often_several(&row);
+        marked(&row, row.name() != "sheet: open");
         if let "sheet: insert" | "sheet: replace" = row.name() {
             mostly_own(&row);
         }
@@ -117,8 +137,10 @@ fn all_cards() {
             _ => &[0, 4, 5, 6],
         };
         agrees(&row, met);
-        if row.name() == "cards: read_part" {
-            mostly_own(&row);
+        match row.name() {
+            "cards: print" => marked(&row, true),
+            "cards: read_part" => mostly_own(&row),
+            _ => {}
         }
     }
 }

@@ -99,9 +99,11 @@ fn noses_of_the_same_name() {
         assert_eq!(format!("{ours:?}"), format!("{theirs:?}"));
         assert_eq!(ours.points().collect::<Vec<_>>(), theirs.points());
         assert_eq!(ours.first_mach(), theirs.first_mach());
-        for i in 0..400 {
+        for i in 0..500 {
             let mach = f64::from(i) * 0.01;
             assert_eq!(ours.value_and_slope(mach), theirs.value_and_slope(mach));
+            let last = theirs.points()[theirs.points().len() - 1].0;
+            assert_eq!(ours.reading(mach).beyond, mach > last);
         }
         let machs: Vec<f64> = (0..256).map(|i| f64::from(i) * 0.01).collect();
         let mut drags = [0.0; 256];

@@ -5,8 +5,9 @@
     streams.py check < stdout    compares the answers that were printed with the list
 
 An expected answer is `refused N card K`, or how many parts an accepted sheet has, how many columns, and, where that isn't one, how
-many finishes.
+many finishes; then each line that has a marked cell, its name and for each column `+` or, without a mark, `-`.
 """
+import math
 import struct
 import sys
 
@@ -123,8 +124,10 @@ add(BARE, (0, 0))
 add(settings(columns=[]) + part(0, None, 1.0, 1.0, 0.2, 3.0) + part(2, None, 1.0, 2.0), (2, 0))
 add(settings(columns=[(-0.0, 1e6)]), (0, 1))
 add(settings(b=1e-320, columns=[(0.3, 1e6)]), (0, 1))
-for shape, x in [(None, None), (0, None), (1, 1.0), (2, None), (3, 0.5), (4, 1.0), (5, 0.0)]:
+for shape, x in [(None, None), (0, None), (1, 1.0), (2, None)]:
     add(settings(columns=FIVE) + part(shape, x, 3.0, 1.0, 0.1, 8.0), (1, 5))
+for shape, x in [(3, 0.5), (4, 1.0), (5, 0.0)]:
+    add(settings(columns=FIVE) + part(shape, x, 3.0, 1.0, 0.1, 8.0), (1, 5, "part 0 ----+", "total ----+"))
 # a club rocket: an ogive nose, a tube, a boattail
 CLUB = settings(d=0.066, roughness=2e-5, b=18.0, columns=FIVE)
 STACK = [part(1, 1.0, 0.3, 0.066, 0.0, 12.0), part(0, None, 0.8, 0.066, None, 48.0), part(0, None, 0.05, 0.05, None, 2.6)]
@@ -235,6 +238,67 @@ whole = b"".join(cards)
 for cut in range(1, len(whole) + 1):
     passed = sum(1 for end in [len(cards[0]), len(whole)] if end <= cut)
     add(whole[:cut], (passed - 1, 1, 2) if cut in [len(cards[0]), len(whole)] else refused(4, passed))
+# marks: a column just below, at and just above the last Mach of each of Stoney's tables, which are power 1/2, power 3/4, parabola 1/2 and
+# 3/4, parabola 1, LV-Haack, von Karman, power 1/4 and ellipsoid; a shape is marked from just above the first of those that it reads
+ENDS = [1.941, 1.967, 1.968, 1.975, 1.977, 1.994, 3.587]
+BESIDE = settings(columns=[(mach, 1e7) for end in ENDS for mach in [math.nextafter(end, 0.0), end, math.nextafter(end, INF)]])
+FROM = {
+    1.941: "--+ +++ +++ +++ +++ +++ +++",
+    1.967: "--- --+ +++ +++ +++ +++ +++",
+    1.968: "--- --- --+ +++ +++ +++ +++",
+    1.977: "--- --- --- --- --+ +++ +++",
+    3.587: "--- --- --- --- --- --- --+",
+}
+# both references of a bracket are read, also at its ends, where the weight of one is 0
+READS = [(2, None, 3.587)]
+READS += [(3, 0.0, 3.587), (3, 0.125, 3.587), (3, 0.25, 1.941), (3, 0.4, 1.941)]
+READS += [(3, 0.5, 1.941), (3, 0.6, 1.941), (3, 0.75, 1.967), (3, 0.9, 1.967), (3, 1.0, 1.967)]
+READS += [(4, 0.0, 1.968), (4, 0.25, 1.968), (4, 0.5, 1.968), (4, 0.6, 1.968), (4, 0.75, 1.968), (4, 0.9, 1.968), (4, 1.0, 1.968)]
+READS += [(5, 0.0, 1.977), (5, 0.2, 1.977), (5, THIRD, 1.977)]
+for shape, x, end in READS:
+    marks = FROM[end].replace(" ", "")
+    add(BESIDE + part(shape, x, 3.0, 1.0, 0.1, 8.0), (1, 21, "part 0 " + marks, "total " + marks))
+# cone and ogive read no table, and a part without length is a step whatever its shape
+for shape, x, length in [(0, None, 3.0), (0, None, 0.5), (1, 1.0, 3.0), (1, 2.0, 0.5), (2, None, 0.0), (5, 0.0, 0.0), (5, 0.0, None)]:
+    add(BESIDE + part(shape, x, length, 1.0, 0.1, 8.0), (1, 21))
+# columns in any order, from Mach 0 to the largest; below Mach 0.8 no table is read, and an ellipsoid between 0.8 and 1.2 reads its at 1.2
+MIXED = [(2.5, 1e7), (0.0, 1e5), (0.7, 1e6), (sys.float_info.max, 1e7), (0.8, 1e6), (1.0, 2e6), (1.9, 4e6), (4.0, 0.0)]
+add(settings(columns=MIXED) + part(5, 0.1, 3.0, 1.0, 0.1, 8.0), (1, 8, "part 0 +--+---+", "total +--+---+"))
+add(settings(columns=MIXED) + part(2, None, 3.0, 1.0, 0.1, 8.0), (1, 8, "part 0 ---+---+", "total ---+---+"))
+add(settings(columns=MIXED) + part(2, None, 0.2, 1.0, 0.1, 8.0), (1, 8, "part 0 ---+---+", "total ---+---+"))
+# a marked part before one that narrows or is level, which read no table whatever their shapes; a shoulder behind a cone is marked
+TWO = settings(columns=[(1.9, 1e7), (2.5, 1e7)])
+KARMAN = part(5, 0.0, 3.0, 1.0, 0.0, 8.0)
+MARKED = ("part 0 -+", "total -+")
+add(TWO + KARMAN + part(length=1.0, d=0.5, w=1.0), (2, 2, *MARKED))
+add(TWO + KARMAN + part(5, 0.0, 1.0, 0.5, 0.0, 1.0), (2, 2, *MARKED))
+add(TWO + KARMAN + part(5, 0.0, 9.0, 1.0, 0.0, 40.0), (2, 2, *MARKED))
+add(TWO + KARMAN + part(d=0.0), (2, 2, *MARKED))
+add(TWO + part(d=1.0) + part(5, 0.0, 9.0, 1.0), (2, 2))
+add(TWO + part(0, None, 3.0, 1.0, 0.1, 8.0) + part(5, 0.0, 3.0, 1.5, 0.1, 8.0), (2, 2, "part 1 -+", "total -+"))
+# marked parts whose tables end apart: a total is marked where either is
+add(
+    settings(columns=[(1.95, 1e7), (2.5, 1e7), (3.6, 1e7)]) + part(2, None, 3.0, 1.0) + part(3, 0.5, 3.0, 1.5) + part(1, 1.0, 3.0, 2.0),
+    (3, 3, "part 0 --+", "part 1 +++", "total +++"),
+)
+# a cell that the area ratio makes 0, d so small that d * d is 0, is marked; not so a step, a cone and a part as wide as nothing before it
+add(TWO + part(5, 0.0, 1e-170, 1e-170), (1, 2, *MARKED))
+add(TWO + part(5, 0.0, 0.0, 1e-170), (1, 2))
+add(TWO + part(0, None, 1e-170, 1e-170), (1, 2))
+add(TWO + part(5, 0.0, 1.0, 0.0), (1, 2))
+# finishes: every total is marked, no friction is
+for count in range(2, 5):
+    totals = [f"total {j} -+" for j in range(count)]
+    add(settings(columns=[(1.9, 1e7), (2.5, 1e7)], finishes=PAINTS[:count]) + KARMAN + part(d=0.5), (2, 2, count, "part 0 -+", *totals))
+# refused cards after a marked part
+add(TWO + KARMAN + part(1, 0.9, 1.0, 2.0), refused(2, 2))
+add(TWO + KARMAN + b"\x80", refused(5, 2))
+# no columns and no marks; the longest text, with every part marked in every column
+add(BARE + KARMAN, (1, 0))
+SIXTEEN_MARKED = b"".join(part(5, 0.2, 0.5, 0.1 * (k + 1), 0.0, 1.0, 1e-6 * (k + 1)) for k in range(16))
+ALL = [f"part {k}" for k in range(16)] + [f"total {j}" for j in range(4)]
+LONGEST = settings(columns=[(2.0 + 0.1 * k, 1e6) for k in range(32)], finishes=PAINTS)
+add(LONGEST + SIXTEEN_MARKED, (16, 32, 4, *(name + " " + "+" * 32 for name in ALL)))
 
 
 def row_names(sheet):
@@ -245,13 +309,22 @@ def row_names(sheet):
     return parts, finishes, names + ["base"] + ["total" + j for j in of_finish]
 
 
+def is_cell(name, word):
+    """Whether a word is 16 digits, with or without a mark behind them; a Mach has none."""
+    digits = word if name == "mach" else word.removesuffix("+")
+    return len(digits) == 16 and "+" not in digits
+
+
 def answer_of(sheet):
-    """The numbers of parts, columns and finishes of a sheet's lines, or the lines where they are no sheet's."""
+    """The numbers of parts, columns and finishes of a sheet's lines and the marks of those that have any, or the lines where they are no
+    sheet's."""
     parts, finishes, names = row_names(sheet)
     rows = [line[len(name) :].split(" ")[1:] for name, line in zip(names, sheet)]
     good = len(names) == len(sheet) and all(f"{line} ".startswith(name + " ") for name, line in zip(names, sheet))
-    good = good and all(len(row) == len(rows[0]) and all(len(bits) == 16 for bits in row) for row in rows)
-    return sheet_of(parts, len(rows[0]), finishes) if good else "\n".join(sheet)
+    good = good and all(len(row) == len(rows[0]) and all(is_cell(name, word) for word in row) for name, row in zip(names, rows))
+    marks = [(name, "".join("+" if word.endswith("+") else "-" for word in row)) for name, row in zip(names, rows)]
+    marked = tuple(f"{name} {row}" for name, row in marks if "+" in row)
+    return sheet_of(parts, len(rows[0]), finishes) + marked if good else "\n".join(sheet)
 
 
 def answers(text):

@@ -14,9 +14,17 @@
  * cobalnis_print. Floats are handed out by their bits, 7ff8000000000000 for
  * every NaN.
  *
+ * A mark is a byte, 0 or 1. A curve's mark at a Mach number is 1 where any of
+ * Stoney's tables that was read for its coefficient there, with whatever
+ * weight, was asked above its last Mach number, so that its last drag was held.
+ * Beside the cells of a sheet lie as many marks. A part that widens has its
+ * curve's; the other parts, friction and base have 0; a total has 1 where a
+ * part's mark of its column, as it lies there, isn't 0.
+ *
  * No two of the memory areas passed to one call may overlap, and no pointer
  * may be null or unaligned (an empty slice has any aligned pointer), but for
- * the `value` and `compared` of the typed functions, which may be null. */
+ * the `value`, `beyond` and `compared` of the typed functions, which may be
+ * null. */
 #ifndef COBALNIS_H
 #define COBALNIS_H
 
@@ -39,8 +47,8 @@ enum {
     COBALNIS_QUERIES = 256 /* Mach numbers that one walk takes */
 };
 
-/* The most rows and cells that a sheet has; cobalnis_sheet_cells says what one
- * of fewer finishes and columns needs. */
+/* The most rows and cells that a sheet has, and marks as cells;
+ * cobalnis_sheet_cells says what one of fewer finishes and columns needs. */
 enum {
     COBALNIS_ROWS = COBALNIS_PLACES + 1 + 2 * COBALNIS_FINISHES,
     COBALNIS_CELLS = COBALNIS_ROWS * COBALNIS_COLUMNS
@@ -63,13 +71,14 @@ enum {
 
 /* What cobalnis_print needs: a line for Mach, each place, base, and the
  * friction and the total of each finish, of a name, a space and two digits
- * where there are several of them, a space and 16 digits a column, and a line
- * feed. */
+ * where there are several of them, a space and 16 digits a column, a sign after
+ * those of a cell that is marked, and a line feed. */
 enum {
-    COBALNIS_ROW_TEXT = COBALNIS_COLUMNS * 17 + 1,
-    COBALNIS_LONGEST_TEXT = 4 + (4 + 3) * COBALNIS_PLACES
+    COBALNIS_MACH_TEXT = COBALNIS_COLUMNS * 17 + 1,
+    COBALNIS_ROW_TEXT = COBALNIS_COLUMNS * 18 + 1,
+    COBALNIS_LONGEST_TEXT = 4 + COBALNIS_MACH_TEXT + (4 + 3) * COBALNIS_PLACES
                             + (8 + 3 + 5 + 3) * COBALNIS_FINISHES + 4
-                            + (1 + COBALNIS_ROWS) * COBALNIS_ROW_TEXT
+                            + COBALNIS_ROWS * COBALNIS_ROW_TEXT
 };
 
 /* Refusal numbers (docs/REFERENCE.md, Refusals). */
@@ -83,7 +92,7 @@ enum {
     COBALNIS_MANY_COLUMNS = 7,  /* more than COBALNIS_COLUMNS columns */
     COBALNIS_NO_PLACE = 8,      /* no such place, column or point */
     COBALNIS_MANY_PARTS = 9,    /* more than COBALNIS_PLACES parts */
-    COBALNIS_FEW_CELLS = 10,    /* too few cells, or too short an output, or too many queries */
+    COBALNIS_FEW_CELLS = 10,    /* too few cells or marks, too short an output, too many queries */
     COBALNIS_HOUSE_INTERVAL = 11, /* a size outside what the clubs allow */
     COBALNIS_FALLING_MACH = 16, /* a walk's Mach number is below the one before it */
     COBALNIS_FINISH_COUNT = 19  /* no finish, or more than COBALNIS_FINISHES */
@@ -194,8 +203,9 @@ uint32_t cobalnis_classify(uint64_t bits);
 /* Mach number and drag of a nose's measured point. */
 uint32_t cobalnis_nose_point(uint32_t nose, size_t place, uint64_t out[2]);
 
-/* Value and slope in a nose's table, and the table's first Mach number. */
-uint32_t cobalnis_nose_lookup(uint32_t nose, double mach, uint64_t out[3]);
+/* Value and slope in a nose's table, the table's first Mach number, and 1 where
+ * mach is above its last one, else 0. */
+uint32_t cobalnis_nose_lookup(uint32_t nose, double mach, uint64_t out[4]);
 
 /* A nose's value at each of n Mach numbers, up to COBALNIS_QUERIES, each at or
  * above the one before, in one walk along the table: each is the value that
@@ -206,35 +216,39 @@ uint32_t cobalnis_nose_lookup(uint32_t nose, double mach, uint64_t out[3]);
 uint32_t cobalnis_nose_walk(uint32_t nose, const double *machs, size_t n, double *values,
                             size_t m, size_t *compared, uint64_t *bits);
 
-/* Builds a curve and answers its coefficient at each Mach number; about: the
- * value refused, the drag at rest, the transonic lower bound. */
+/* Builds a curve and answers its coefficient at each Mach number, and its mark;
+ * about: the value refused, the drag at rest, the transonic lower bound.
+ * Refused: out and marks are untouched. */
 uint32_t cobalnis_curve(uint64_t shape, double parameter, double fineness_ratio,
                         double joint_angle, const double *machs, size_t n, uint64_t *out, size_t m,
-                        uint64_t about[3]);
+                        uint8_t *marks, size_t mark_count, uint64_t about[3]);
 
 /* The sheet's calls. Accepted: the words are the sheet handed back. Refused:
- * words and cells are untouched, and bits is the value refused. Open looks at
- * the settings' words only, empties the design and starts coasting. Ignite
- * takes the nozzle diameter, from 0 to 100, and burnout puts it back to 0:
- * these two write the base row and the total rows and no other. */
+ * words, cells and marks are untouched, and bits is the value refused. A mark
+ * is written only when its cell is. Open looks at the settings' words only,
+ * empties the design and starts coasting. Ignite takes the nozzle diameter,
+ * from 0 to 100, and burnout puts it back to 0: these two write the base row
+ * and the total rows and no other. */
 uint32_t cobalnis_open(uint64_t sheet[COBALNIS_SHEET_WORDS], double *cells,
-                       size_t cell_count, uint64_t *bits);
+                       size_t cell_count, uint8_t *marks, size_t mark_count, uint64_t *bits);
 uint32_t cobalnis_insert(uint64_t sheet[COBALNIS_SHEET_WORDS], size_t place,
                          const uint64_t part[COBALNIS_PART_WORDS], double *cells,
-                         size_t cell_count, uint64_t *bits);
+                         size_t cell_count, uint8_t *marks, size_t mark_count, uint64_t *bits);
 uint32_t cobalnis_replace(uint64_t sheet[COBALNIS_SHEET_WORDS], size_t place,
                           const uint64_t part[COBALNIS_PART_WORDS], double *cells,
-                          size_t cell_count, uint64_t *bits);
+                          size_t cell_count, uint8_t *marks, size_t mark_count, uint64_t *bits);
 uint32_t cobalnis_remove(uint64_t sheet[COBALNIS_SHEET_WORDS], size_t place,
-                         double *cells, size_t cell_count, uint64_t *bits);
+                         double *cells, size_t cell_count, uint8_t *marks, size_t mark_count,
+                         uint64_t *bits);
 uint32_t cobalnis_set_column(uint64_t sheet[COBALNIS_SHEET_WORDS], size_t column,
-                             double mach, double reynolds, double *cells,
-                             size_t cell_count, uint64_t *bits);
+                             double mach, double reynolds, double *cells, size_t cell_count,
+                             uint8_t *marks, size_t mark_count, uint64_t *bits);
 
 uint32_t cobalnis_ignite(uint64_t sheet[COBALNIS_SHEET_WORDS], double nozzle_diameter,
-                         double *cells, size_t cell_count, uint64_t *bits);
+                         double *cells, size_t cell_count, uint8_t *marks, size_t mark_count,
+                         uint64_t *bits);
 uint32_t cobalnis_burnout(uint64_t sheet[COBALNIS_SHEET_WORDS], double *cells,
-                          size_t cell_count, uint64_t *bits);
+                          size_t cell_count, uint8_t *marks, size_t mark_count, uint64_t *bits);
 
 /* Reads a card from the byte `at` on; next: where it ends. A settings card
  * fills the words of a sheet's settings. Where no byte is left there is no
@@ -244,10 +258,10 @@ uint32_t cobalnis_read_settings(const uint8_t *bytes, size_t n, size_t at,
 uint32_t cobalnis_read_part(const uint8_t *bytes, size_t n, size_t at,
                             uint64_t part[COBALNIS_PART_WORDS], size_t *next);
 
-/* What the program `sheet` prints for these bytes, and how many bytes that
- * is; 0 where out has fewer than COBALNIS_LONGEST_TEXT. No bytes (n = 0, the
- * pointer as always not null) print the names of a sheet with no columns and
- * no parts. */
+/* What the program `sheet` prints for these bytes, a `+` right after each
+ * marked cell, and how many bytes that is; 0 where out has fewer than
+ * COBALNIS_LONGEST_TEXT. No bytes (n = 0, the pointer as always not null) print
+ * the names of a sheet with no columns and no parts. */
 size_t cobalnis_print(const uint8_t *bytes, size_t n, uint8_t *out, size_t m);
 
 /* ---- structs that lie as the words do */
@@ -527,22 +541,25 @@ static inline uint32_t cobalnis_stoney_point(uint32_t nose, size_t place, double
 }
 
 /* At a finite Mach from 0 up the value is within 2^-50 of the exact broken line
- * through the stored points, and on it at their Machs (docs/DISTANCE.md). */
+ * through the stored points, and on it at their Machs (docs/DISTANCE.md).
+ * beyond: whether mach is above the last of them, so that its drag is held. */
 static inline uint32_t cobalnis_stoney_value_and_slope(uint32_t nose, double mach, double *value,
-                                                       double *slope)
+                                                       double *slope, bool *beyond)
 {
-    uint64_t out[3] = {0, 0, 0};
+    uint64_t out[4] = {0, 0, 0, 0};
     uint32_t status = cobalnis_nose_lookup(nose, mach, out);
     if (status == 0) {
         *value = cobalnis_double(out[0]);
         *slope = cobalnis_double(out[1]);
+        if (beyond != NULL)
+            *beyond = out[3] != 0;
     }
     return status;
 }
 
 static inline uint32_t cobalnis_stoney_first_mach(uint32_t nose, double *mach)
 {
-    uint64_t out[3] = {0, 0, 0};
+    uint64_t out[4] = {0, 0, 0, 0};
     uint32_t status = cobalnis_nose_lookup(nose, 0, out);
     return cobalnis_answer(status, out[2], mach);
 }
@@ -570,8 +587,9 @@ static inline uint32_t cobalnis_curve_new(uint64_t shape, double parameter, doub
 {
     uint64_t none = 0, about[3] = {0, 0, 0};
     double no_mach = 0;
+    uint8_t no_mark = 0;
     uint32_t status = cobalnis_curve(shape, parameter, fineness_ratio, joint_angle, &no_mach, 0,
-                                     &none, 0, about);
+                                     &none, 0, &no_mark, 0, about);
     if (status == 0) {
         curve->shape = shape;
         curve->parameter = parameter;
@@ -591,102 +609,113 @@ static inline cobalnis_pressure_drag_curve cobalnis_curve_step(void)
     return curve;
 }
 
-/* The coefficients at n Mach numbers, of which out takes as many; refused:
- * value is the first Mach number that is refused. */
+/* The coefficients at n Mach numbers and their marks, of which out and marks
+ * take as many; refused: value is the first Mach number that is refused. */
 static inline uint32_t cobalnis_curve_coefficients(const cobalnis_pressure_drag_curve *curve,
                                                    const double *machs, size_t n, double *out,
-                                                   double *value)
+                                                   uint8_t *marks, double *value)
 {
     uint64_t about[3] = {0, 0, 0};
     uint32_t status = cobalnis_curve(curve->shape, curve->parameter, curve->fineness_ratio,
                                      curve->joint_angle, machs, n, cobalnis_words_of(out), n,
-                                     about);
+                                     marks, n, about);
     return cobalnis_answer(status, about[0], value);
 }
 
-/* value: the coefficient, or the Mach number refused. */
+/* value: the coefficient, or the Mach number refused; beyond: its mark, not
+ * written where it is refused. */
 static inline uint32_t cobalnis_curve_coefficient(const cobalnis_pressure_drag_curve *curve,
-                                                  double mach, double *value)
+                                                  double mach, double *value, bool *beyond)
 {
     double coefficient = 0, refused = 0;
-    uint32_t status = cobalnis_curve_coefficients(curve, &mach, 1, &coefficient, &refused);
+    uint8_t mark = 0;
+    uint32_t status = cobalnis_curve_coefficients(curve, &mach, 1, &coefficient, &mark, &refused);
     if (value != NULL)
         *value = status == 0 ? coefficient : refused;
+    if (beyond != NULL && status == 0)
+        *beyond = mark != 0;
     return status;
 }
 
 /* ---- the sheet; value is the value refused */
 
 static inline uint32_t cobalnis_sheet_open(cobalnis_sheet *sheet, double *cells, size_t cell_count,
-                                           double *value)
+                                           uint8_t *marks, size_t mark_count, double *value)
 {
     uint64_t bits = 0;
-    uint32_t status = cobalnis_open(cobalnis_words_of(sheet), cells, cell_count, &bits);
+    uint32_t status = cobalnis_open(cobalnis_words_of(sheet), cells, cell_count, marks, mark_count,
+                                    &bits);
     return cobalnis_answer(status, bits, value);
 }
 
 static inline uint32_t cobalnis_sheet_insert(cobalnis_sheet *sheet, size_t place,
                                              cobalnis_part part, double *cells, size_t cell_count,
-                                             double *value)
+                                             uint8_t *marks, size_t mark_count, double *value)
 {
     uint64_t bits = 0;
     uint32_t status = cobalnis_insert(cobalnis_words_of(sheet), place, cobalnis_words_of(&part),
-                                      cells, cell_count, &bits);
+                                      cells, cell_count, marks, mark_count, &bits);
     return cobalnis_answer(status, bits, value);
 }
 
 static inline uint32_t cobalnis_sheet_replace(cobalnis_sheet *sheet, size_t place,
                                               cobalnis_part part, double *cells, size_t cell_count,
-                                              double *value)
+                                              uint8_t *marks, size_t mark_count, double *value)
 {
     uint64_t bits = 0;
     uint32_t status = cobalnis_replace(cobalnis_words_of(sheet), place, cobalnis_words_of(&part),
-                                       cells, cell_count, &bits);
+                                       cells, cell_count, marks, mark_count, &bits);
     return cobalnis_answer(status, bits, value);
 }
 
 static inline uint32_t cobalnis_sheet_remove(cobalnis_sheet *sheet, size_t place, double *cells,
-                                             size_t cell_count, double *value)
+                                             size_t cell_count, uint8_t *marks, size_t mark_count,
+                                             double *value)
 {
     uint64_t bits = 0;
-    uint32_t status = cobalnis_remove(cobalnis_words_of(sheet), place, cells, cell_count, &bits);
+    uint32_t status = cobalnis_remove(cobalnis_words_of(sheet), place, cells, cell_count, marks,
+                                      mark_count, &bits);
     return cobalnis_answer(status, bits, value);
 }
 
 static inline uint32_t cobalnis_sheet_set_column(cobalnis_sheet *sheet, size_t column, double mach,
                                                  double reynolds, double *cells, size_t cell_count,
-                                                 double *value)
+                                                 uint8_t *marks, size_t mark_count, double *value)
 {
     uint64_t bits = 0;
     uint32_t status = cobalnis_set_column(cobalnis_words_of(sheet), column, mach, reynolds, cells,
-                                          cell_count, &bits);
+                                          cell_count, marks, mark_count, &bits);
     return cobalnis_answer(status, bits, value);
 }
 
 static inline uint32_t cobalnis_sheet_ignite(cobalnis_sheet *sheet, double nozzle_diameter,
-                                             double *cells, size_t cell_count, double *value)
+                                             double *cells, size_t cell_count, uint8_t *marks,
+                                             size_t mark_count, double *value)
 {
     uint64_t bits = 0;
     uint32_t status = cobalnis_ignite(cobalnis_words_of(sheet), nozzle_diameter, cells, cell_count,
-                                      &bits);
+                                      marks, mark_count, &bits);
     return cobalnis_answer(status, bits, value);
 }
 
 static inline uint32_t cobalnis_sheet_burnout(cobalnis_sheet *sheet, double *cells,
-                                              size_t cell_count, double *value)
+                                              size_t cell_count, uint8_t *marks, size_t mark_count,
+                                              double *value)
 {
     uint64_t bits = 0;
-    uint32_t status = cobalnis_burnout(cobalnis_words_of(sheet), cells, cell_count, &bits);
+    uint32_t status = cobalnis_burnout(cobalnis_words_of(sheet), cells, cell_count, marks,
+                                       mark_count, &bits);
     return cobalnis_answer(status, bits, value);
 }
 
-/* ---- rows of cells, one cell a column
+/* ---- rows of cells, one cell a column, and of marks
  *
  * First a row for each place, then the friction rows, one a finish, the base,
  * the total rows, one a finish. A place is to be below COBALNIS_PLACES, a finish
  * below the sheet's finishes. */
 
-/* The rows and the cells that a sheet of these finishes and columns needs. */
+/* The rows and the cells that a sheet of these finishes and columns needs; it
+ * needs as many marks. */
 static inline size_t cobalnis_sheet_rows(const cobalnis_sheet *sheet)
 {
     return COBALNIS_PLACES + 1 + 2 * (size_t)sheet->finishes;
@@ -729,6 +758,27 @@ static inline const double *cobalnis_sheet_total(const cobalnis_sheet *sheet, si
                                                  const double *cells)
 {
     return cobalnis_sheet_row(sheet, COBALNIS_PLACES + (size_t)sheet->finishes + 1 + finish, cells);
+}
+
+/* The marks of a row by its number, and of the rows that have any: a part's,
+ * and the totals', which are the same in every finish. */
+static inline const uint8_t *cobalnis_sheet_row_marks(const cobalnis_sheet *sheet, size_t row,
+                                                      const uint8_t *marks)
+{
+    return marks + row * (size_t)sheet->columns;
+}
+
+static inline const uint8_t *cobalnis_sheet_part_marks(const cobalnis_sheet *sheet, size_t place,
+                                                       const uint8_t *marks)
+{
+    return cobalnis_sheet_row_marks(sheet, place, marks);
+}
+
+static inline const uint8_t *cobalnis_sheet_total_marks(const cobalnis_sheet *sheet, size_t finish,
+                                                        const uint8_t *marks)
+{
+    const size_t total = COBALNIS_PLACES + (size_t)sheet->finishes + 1;
+    return cobalnis_sheet_row_marks(sheet, total + finish, marks);
 }
 
 /* ---- cards */

@@ -1,5 +1,5 @@
 //! The C interface as include/cobalnis.h has it, and a safe function over each of its functions.
-//! All of this crate's `unsafe` is here.
+//! All of this crate's `unsafe` is here; c/raw.rs has the declarations.
 //!
 //! What the C side asks of its pointers, Rust's references already say: they are aligned and never
 //! null (an empty slice's too), a `&mut` overlaps nothing else, and a slice has as many items as
@@ -27,118 +27,7 @@ pub const SHEET_WORDS: usize = FIRST_PART + PLACES * PART_WORDS;
 pub type PartWords = [u64; PART_WORDS];
 pub type SheetWords = [u64; SHEET_WORDS];
 
-/// The declarations.
-pub mod raw {
-    use super::{PartWords, SheetWords};
-
-    extern "C" {
-        pub fn cobalnis_formula(
-            which: u32,
-            a: f64,
-            b: f64,
-            c: f64,
-            d: f64,
-            e: f64,
-            bits: *mut u64,
-        ) -> u32;
-        pub fn cobalnis_check_dimension(
-            what: u32,
-            value: f64,
-            allow_zero: bool,
-            bits: *mut u64,
-        ) -> u32;
-        pub fn cobalnis_takes_cone_formula(shape: u64, parameter: f64) -> u32;
-        pub fn cobalnis_classify(bits: u64) -> u32;
-        pub fn cobalnis_nose_point(nose: u32, place: usize, out: *mut [u64; 2]) -> u32;
-        pub fn cobalnis_nose_lookup(nose: u32, mach: f64, out: *mut [u64; 3]) -> u32;
-        pub fn cobalnis_nose_walk(
-            nose: u32,
-            machs: *const f64,
-            n: usize,
-            values: *mut f64,
-            m: usize,
-            compared: *mut usize,
-            bits: *mut u64,
-        ) -> u32;
-        pub fn cobalnis_curve(
-            shape: u64,
-            parameter: f64,
-            fineness_ratio: f64,
-            joint_angle_rad: f64,
-            machs: *const f64,
-            n: usize,
-            out: *mut u64,
-            m: usize,
-            about: *mut [u64; 3],
-        ) -> u32;
-        pub fn cobalnis_open(
-            sheet: *mut SheetWords,
-            cells: *mut f64,
-            cell_count: usize,
-            bits: *mut u64,
-        ) -> u32;
-        pub fn cobalnis_insert(
-            sheet: *mut SheetWords,
-            place: usize,
-            part: *const PartWords,
-            cells: *mut f64,
-            cell_count: usize,
-            bits: *mut u64,
-        ) -> u32;
-        pub fn cobalnis_replace(
-            sheet: *mut SheetWords,
-            place: usize,
-            part: *const PartWords,
-            cells: *mut f64,
-            cell_count: usize,
-            bits: *mut u64,
-        ) -> u32;
-        pub fn cobalnis_remove(
-            sheet: *mut SheetWords,
-            place: usize,
-            cells: *mut f64,
-            cell_count: usize,
-            bits: *mut u64,
-        ) -> u32;
-        pub fn cobalnis_set_column(
-            sheet: *mut SheetWords,
-            column: usize,
-            mach: f64,
-            reynolds: f64,
-            cells: *mut f64,
-            cell_count: usize,
-            bits: *mut u64,
-        ) -> u32;
-        pub fn cobalnis_ignite(
-            sheet: *mut SheetWords,
-            nozzle_diameter: f64,
-            cells: *mut f64,
-            cell_count: usize,
-            bits: *mut u64,
-        ) -> u32;
-        pub fn cobalnis_burnout(
-            sheet: *mut SheetWords,
-            cells: *mut f64,
-            cell_count: usize,
-            bits: *mut u64,
-        ) -> u32;
-        pub fn cobalnis_read_settings(
-            bytes: *const u8,
-            n: usize,
-            at: usize,
-            sheet: *mut SheetWords,
-            next: *mut usize,
-        ) -> u32;
-        pub fn cobalnis_read_part(
-            bytes: *const u8,
-            n: usize,
-            at: usize,
-            part: *mut PartWords,
-            next: *mut usize,
-        ) -> u32;
-        pub fn cobalnis_print(bytes: *const u8, n: usize, out: *mut u8, m: usize) -> usize;
-    }
-}
+pub mod raw;
 
 /// A status, and the bits of the value or of the value refused.
 pub fn formula(which: u32, x: [f64; 5]) -> (u32, u64) {
@@ -176,10 +65,11 @@ pub fn nose_point(nose: u32, place: usize) -> (u32, [u64; 2]) {
     (status, out)
 }
 
-/// A status, and the bits of value, slope and the table's first Mach number.
-pub fn nose_lookup(nose: u32, mach: f64) -> (u32, [u64; 3]) {
-    let mut out = [0; 3];
-    // SAFETY: `out` is three words of our own.
+/// A status, the bits of value, slope and the table's first Mach number, and 1 where the Mach number
+/// is above the table's last one, else 0.
+pub fn nose_lookup(nose: u32, mach: f64) -> (u32, [u64; 4]) {
+    let mut out = [0; 4];
+    // SAFETY: `out` is four words of our own.
     let status = unsafe { raw::cobalnis_nose_lookup(nose, mach, &mut out) };
     (status, out)
 }
@@ -205,16 +95,17 @@ pub fn nose_walk(nose: u32, machs: &[f64], values: &mut [f64], compared: &mut us
 }
 
 /// A status, and the bits of the value refused, of the drag at rest and of the lower bound; the
-/// coefficients' bits go to `out`.
+/// coefficients' bits go to `out`, their marks to `marks`.
 pub fn curve(
     shape: u64,
     [parameter, fineness, angle]: [f64; 3],
     machs: &[f64],
     out: &mut [u64],
+    marks: &mut [u8],
 ) -> (u32, [u64; 3]) {
     let mut about = [0; 3];
     // SAFETY: each pointer comes with its slice's own length, `about` is three words of our own,
-    // and `out` is borrowed mutably, so that nothing overlaps it.
+    // and `out` and `marks` are borrowed mutably, so that nothing overlaps them.
     let status = unsafe {
         raw::cobalnis_curve(
             shape,
@@ -225,6 +116,8 @@ pub fn curve(
             machs.len(),
             out.as_mut_ptr(),
             out.len(),
+            marks.as_mut_ptr(),
+            marks.len(),
             &mut about,
         )
     };
@@ -232,11 +125,20 @@ pub fn curve(
 }
 
 /// A status, and the bits of the value refused.
-pub fn open(sheet: &mut SheetWords, cells: &mut [f64]) -> (u32, u64) {
+pub fn open(sheet: &mut SheetWords, cells: &mut [f64], marks: &mut [u8]) -> (u32, u64) {
     let mut bits = 0;
-    // SAFETY: `sheet` and `cells` are two mutable borrows, so apart; `cells` has its own length;
-    // any bits are an `f64` and any `f64` may be written.
-    let status = unsafe { raw::cobalnis_open(sheet, cells.as_mut_ptr(), cells.len(), &mut bits) };
+    // SAFETY: `sheet`, `cells` and `marks` are three mutable borrows, so apart; both buffers have
+    // their own lengths; any bits are an `f64` and a `u8`, and any of them may be written.
+    let status = unsafe {
+        raw::cobalnis_open(
+            sheet,
+            cells.as_mut_ptr(),
+            cells.len(),
+            marks.as_mut_ptr(),
+            marks.len(),
+            &mut bits,
+        )
+    };
     (status, bits)
 }
 
@@ -247,6 +149,8 @@ type Edit = unsafe extern "C" fn(
     *const PartWords,
     *mut f64,
     usize,
+    *mut u8,
+    usize,
     *mut u64,
 ) -> u32;
 
@@ -256,6 +160,7 @@ fn edit(
     place: usize,
     part: &PartWords,
     cells: &mut [f64],
+    marks: &mut [u8],
 ) -> (u32, u64) {
     let mut bits = 0;
     // SAFETY: as for `open`; `part` is borrowed while the others are borrowed mutably, so apart.
@@ -266,6 +171,8 @@ fn edit(
             part,
             cells.as_mut_ptr(),
             cells.len(),
+            marks.as_mut_ptr(),
+            marks.len(),
             &mut bits,
         )
     };
@@ -278,8 +185,9 @@ pub fn insert(
     place: usize,
     part: &PartWords,
     cells: &mut [f64],
+    marks: &mut [u8],
 ) -> (u32, u64) {
-    edit(raw::cobalnis_insert, sheet, place, part, cells)
+    edit(raw::cobalnis_insert, sheet, place, part, cells, marks)
 }
 
 /// A status, and the bits of the value refused.
@@ -288,16 +196,31 @@ pub fn replace(
     place: usize,
     part: &PartWords,
     cells: &mut [f64],
+    marks: &mut [u8],
 ) -> (u32, u64) {
-    edit(raw::cobalnis_replace, sheet, place, part, cells)
+    edit(raw::cobalnis_replace, sheet, place, part, cells, marks)
 }
 
 /// A status, and the bits of the value refused.
-pub fn remove(sheet: &mut SheetWords, place: usize, cells: &mut [f64]) -> (u32, u64) {
+pub fn remove(
+    sheet: &mut SheetWords,
+    place: usize,
+    cells: &mut [f64],
+    marks: &mut [u8],
+) -> (u32, u64) {
     let mut bits = 0;
     // SAFETY: as for `open`.
-    let status =
-        unsafe { raw::cobalnis_remove(sheet, place, cells.as_mut_ptr(), cells.len(), &mut bits) };
+    let status = unsafe {
+        raw::cobalnis_remove(
+            sheet,
+            place,
+            cells.as_mut_ptr(),
+            cells.len(),
+            marks.as_mut_ptr(),
+            marks.len(),
+            &mut bits,
+        )
+    };
     (status, bits)
 }
 
@@ -308,6 +231,7 @@ pub fn set_column(
     mach: f64,
     reynolds: f64,
     cells: &mut [f64],
+    marks: &mut [u8],
 ) -> (u32, u64) {
     let mut bits = 0;
     // SAFETY: as for `open`.
@@ -319,6 +243,8 @@ pub fn set_column(
             reynolds,
             cells.as_mut_ptr(),
             cells.len(),
+            marks.as_mut_ptr(),
+            marks.len(),
             &mut bits,
         )
     };
@@ -326,20 +252,42 @@ pub fn set_column(
 }
 
 /// A status, and the bits of the value refused.
-pub fn ignite(sheet: &mut SheetWords, nozzle_diameter: f64, cells: &mut [f64]) -> (u32, u64) {
-    let (n, mut bits) = (nozzle_diameter, 0);
+pub fn ignite(
+    sheet: &mut SheetWords,
+    nozzle_diameter: f64,
+    cells: &mut [f64],
+    marks: &mut [u8],
+) -> (u32, u64) {
+    let mut bits = 0;
     // SAFETY: as for `open`.
-    let status =
-        unsafe { raw::cobalnis_ignite(sheet, n, cells.as_mut_ptr(), cells.len(), &mut bits) };
+    let status = unsafe {
+        raw::cobalnis_ignite(
+            sheet,
+            nozzle_diameter,
+            cells.as_mut_ptr(),
+            cells.len(),
+            marks.as_mut_ptr(),
+            marks.len(),
+            &mut bits,
+        )
+    };
     (status, bits)
 }
 
 /// A status, and the bits of the value refused.
-pub fn burnout(sheet: &mut SheetWords, cells: &mut [f64]) -> (u32, u64) {
+pub fn burnout(sheet: &mut SheetWords, cells: &mut [f64], marks: &mut [u8]) -> (u32, u64) {
     let mut bits = 0;
     // SAFETY: as for `open`.
-    let status =
-        unsafe { raw::cobalnis_burnout(sheet, cells.as_mut_ptr(), cells.len(), &mut bits) };
+    let status = unsafe {
+        raw::cobalnis_burnout(
+            sheet,
+            cells.as_mut_ptr(),
+            cells.len(),
+            marks.as_mut_ptr(),
+            marks.len(),
+            &mut bits,
+        )
+    };
     (status, bits)
 }
 

@@ -89,7 +89,7 @@ impl Curve {
     }
 
     fn build(shape: u64, arguments: [f64; 3]) -> Result<Self, Refusal> {
-        let (status, about) = c::curve(shape, arguments, &[], &mut []);
+        let (status, about) = c::curve(shape, arguments, &[], &mut [], &mut []);
         Refusal::of(status, about[0])?;
         Ok(Self {
             shape,
@@ -111,18 +111,53 @@ impl Curve {
 
     /// The coefficient at a Mach number.
     pub fn coefficient(&self, mach: f64) -> Result<f64, Refusal> {
-        let mut bits = [0];
-        let (status, about) = c::curve(self.shape, self.arguments, &[mach], &mut bits);
-        Refusal::of(status, about[0])?;
-        Ok(f64::from_bits(bits[0]))
+        Ok(self.drag(mach)?.value)
     }
 
     /// The coefficient at each Mach number, or the refusal of the first one that is refused.
     pub fn coefficients(&self, machs: &[f64]) -> Result<Vec<f64>, Refusal> {
-        let mut bits = vec![0; machs.len()];
-        let (status, about) = c::curve(self.shape, self.arguments, machs, &mut bits);
-        Refusal::of(status, about[0])?;
-        Ok(bits.into_iter().map(f64::from_bits).collect())
+        let drags = self.drags(machs)?;
+        Ok(drags.into_iter().map(|drag| drag.value).collect())
+    }
+
+    /// The coefficient at a Mach number, and whether a table was read for it beyond its last point.
+    pub fn drag(&self, mach: f64) -> Result<PressureDrag, Refusal> {
+        let (mut bits, mut marks) = ([0], [0]);
+        self.ask(&[mach], &mut bits, &mut marks)?;
+        Ok(PressureDrag::of(bits[0], marks[0]))
+    }
+
+    /// The same at each Mach number, or the refusal of the first one that is refused.
+    pub fn drags(&self, machs: &[f64]) -> Result<Vec<PressureDrag>, Refusal> {
+        let (mut bits, mut marks) = (vec![0; machs.len()], vec![0; machs.len()]);
+        self.ask(machs, &mut bits, &mut marks)?;
+        let drags = bits.into_iter().zip(marks);
+        Ok(drags
+            .map(|(bits, mark)| PressureDrag::of(bits, mark))
+            .collect())
+    }
+
+    fn ask(&self, machs: &[f64], bits: &mut [u64], marks: &mut [u8]) -> Result<(), Refusal> {
+        let (status, about) = c::curve(self.shape, self.arguments, machs, bits, marks);
+        Refusal::of(status, about[0])
+    }
+}
+
+/// A curve's coefficient.
+#[derive(Debug, Clone, Copy, PartialEq)]
+pub struct PressureDrag {
+    pub value: f64,
+    /// Whether any table that was read for it was asked above its last Mach number, whatever the
+    /// weight of what it answered.
+    pub beyond: bool,
+}
+
+impl PressureDrag {
+    fn of(bits: u64, mark: u8) -> Self {
+        Self {
+            value: f64::from_bits(bits),
+            beyond: mark != 0,
+        }
     }
 }
 
@@ -174,12 +209,31 @@ impl Nose {
     /// Drag and slope between the points. At a finite Mach number from 0 up the drag is within
     /// 2^-50 of the exact broken line through the points, and on it at their Mach numbers.
     pub fn value_and_slope(self, mach: f64) -> (f64, f64) {
-        let [value, slope, _] = self.lookup(mach);
-        (f64::from_bits(value), f64::from_bits(slope))
+        let Reading { value, slope, .. } = self.reading(mach);
+        (value, slope)
     }
 
-    fn lookup(self, mach: f64) -> [u64; 3] {
+    /// The same, and whether the Mach number is beyond the table.
+    pub fn reading(self, mach: f64) -> Reading {
+        let [value, slope, _, beyond] = self.lookup(mach);
+        Reading {
+            value: f64::from_bits(value),
+            slope: f64::from_bits(slope),
+            beyond: beyond != 0,
+        }
+    }
+
+    fn lookup(self, mach: f64) -> [u64; 4] {
         // The number is one of the nine, so the status is 0.
         c::nose_lookup(self as u32, mach).1
     }
+}
+
+/// What a nose's table says at a Mach number.
+#[derive(Debug, Clone, Copy, PartialEq)]
+pub struct Reading {
+    pub value: f64,
+    pub slope: f64,
+    /// Whether the Mach number is above the table's last one, so that the last drag is held.
+    pub beyond: bool,
 }

@@ -7,9 +7,9 @@
 //!
 //! - [`formulas`]: one function for each formula, under the original's name.
 //! - [`Curve`]: the pressure drag of a nose against Mach number; [`Nose`]: Stoney's measured ones,
-//!   with [`Nose::walk`] for a whole flight.
-//! - [`Sheet`]: parts and columns, and the drag of each part at each column, kept right by edits,
-//!   burning or coasting, with up to four finishes side by side.
+//!   with [`Nose::walk`] for a whole flight. Both tell where a table is held past its last point.
+//! - [`Sheet`]: parts and columns, and the drag of each part at each column with its mark, kept right
+//!   by edits, burning or coasting, with up to four finishes side by side.
 //! - [`classify`]: which of IEEE 754's five classes any 64 bits are in.
 //! - [`Settings::read`], [`Part::read`], [`print`]: cards.
 //! - [`words`]: the same by numbers and words, as the C interface has them.
@@ -23,7 +23,7 @@ mod sheet;
 mod walk;
 
 pub use class::{classify, FloatClass};
-pub use curve::{takes_cone_formula, Curve, Nose, Shape};
+pub use curve::{takes_cone_formula, Curve, Nose, PressureDrag, Reading, Shape};
 pub use formulas::Formula;
 pub use refusal::{check_dimension, Quantity, Refusal};
 pub use sheet::{print, rows, Column, Part, Settings, Sheet, COLUMNS, FINISHES, PLACES};

@@ -65,7 +65,7 @@ impl fmt::Display for Refusal {
             7 => return write!(f, "more than {COLUMNS} columns"),
             8 => "no such place in the design, or no such column",
             9 => return write!(f, "the design has {PLACES} parts already"),
-            10 => "too few cells were lent, or too many Mach numbers asked",
+            10 => "too few cells or marks were lent, or too many Mach numbers asked",
             11 => "a size is outside what the clubs allow",
             16 => "a Mach number is below the one before it",
             19 => return write!(f, "no finish at all, or more than {FINISHES}"),

@@ -1,5 +1,7 @@
 //! The sheet, its settings and parts, and cards.
 
+use std::ops::Range;
+
 use crate::c::{
     self, PartWords, SheetWords, COLUMNS_AT, FINENESS_AT, FINISHES_AT, FIRST_PART, MACHS_AT,
     NOZZLE_AT, PARTS_AT, PART_WORDS, REYNOLDS_AT, ROUGHNESSES_AT, SHEET_WORDS,
@@ -22,12 +24,13 @@ const FRICTION: usize = PLACES;
 
 /// What [`print`] needs: a line for Mach, each place, base, and the friction and the total of each
 /// finish, of a name, a space and two digits where there are several of them, a space and 16 digits a
-/// column, and a line feed.
+/// column, a sign after those of a cell that is marked, and a line feed.
 pub const LONGEST_TEXT: usize = 4
+    + (COLUMNS * 17 + 1)
     + (4 + 3) * PLACES
     + (8 + 3 + 5 + 3) * FINISHES
     + 4
-    + (1 + rows(FINISHES)) * (COLUMNS * 17 + 1);
+    + rows(FINISHES) * (COLUMNS * 18 + 1);
 
 /// One column: what the drag is asked at.
 #[derive(Debug, Clone, Copy, PartialEq)]
@@ -49,7 +52,7 @@ pub struct Settings {
 }
 
 impl Settings {
-    /// The cells that a sheet of these settings needs: [`rows`] a column.
+    /// The cells that a sheet of these settings needs: [`rows`] a column. It needs as many marks.
     pub fn cell_count(&self) -> usize {
         rows(self.roughnesses.len()).saturating_mul(self.columns.len())
     }
@@ -153,30 +156,49 @@ impl Part {
     }
 }
 
-/// An open sheet. It holds the lent cells as long as it lives, so nobody else writes them: after
-/// every list of calls its rows are those of a sheet built from nothing.
+/// An open sheet. It holds the lent cells and marks as long as it lives, so nobody else writes them:
+/// after every list of calls its rows are those of a sheet built from nothing.
 ///
-/// A refused call changes neither the sheet nor a cell.
+/// A mark lies beside each cell, a byte 0 or 1. It is 1 in a part's row where the cell rests on one
+/// of Stoney's tables held past its last point, and in a total's where a part of that column has
+/// one; friction, base and parts that don't widen have none.
+///
+/// A refused call changes neither the sheet nor a cell nor a mark.
 #[derive(Debug)]
-pub struct Sheet<'cells> {
+pub struct Sheet<'lent> {
     words: SheetWords,
-    cells: &'cells mut [f64],
+    cells: &'lent mut [f64],
+    marks: &'lent mut [u8],
 }
 
-impl<'cells> Sheet<'cells> {
-    /// Opens a sheet without parts, coasting, over these cells, of which it needs
-    /// [`Settings::cell_count`]; those past them are never written.
-    pub fn open(settings: &Settings, cells: &'cells mut [f64]) -> Result<Self, Refusal> {
+impl<'lent> Sheet<'lent> {
+    /// Opens a sheet without parts, coasting, over these cells and marks, of which it needs
+    /// [`Settings::cell_count`] each; those past them are never written.
+    pub fn open(
+        settings: &Settings,
+        cells: &'lent mut [f64],
+        marks: &'lent mut [u8],
+    ) -> Result<Self, Refusal> {
         let mut words = settings.words();
-        let answer = c::open(&mut words, cells);
-        let mut sheet = Self { words, cells };
+        let answer = c::open(&mut words, cells, marks);
+        let mut sheet = Self {
+            words,
+            cells,
+            marks,
+        };
         sheet.accept(answer)?;
         Ok(sheet)
     }
 
     /// Puts a part in at a place; the parts from that place on move up one.
     pub fn insert(&mut self, place: usize, part: &Part) -> Result<(), Refusal> {
-        let answer = c::insert(&mut self.words, place, &part.words(), self.cells);
+        let answer = c::insert(
+            &mut self.words,
+            place,
+            &part.words(),
+            self.cells,
+            self.marks,
+        );
         self.accept(answer)
     }
 
@@ -187,33 +209,39 @@ impl<'cells> Sheet<'cells> {
 
     /// Puts another part at a place.
     pub fn replace(&mut self, place: usize, part: &Part) -> Result<(), Refusal> {
-        let answer = c::replace(&mut self.words, place, &part.words(), self.cells);
+        let answer = c::replace(
+            &mut self.words,
+            place,
+            &part.words(),
+            self.cells,
+            self.marks,
+        );
         self.accept(answer)
     }
 
     /// Takes a part out; those after it move down one.
     pub fn remove(&mut self, place: usize) -> Result<(), Refusal> {
-        let answer = c::remove(&mut self.words, place, self.cells);
+        let answer = c::remove(&mut self.words, place, self.cells, self.marks);
         self.accept(answer)
     }
 
     /// Asks a column at another Mach and Reynolds number.
     pub fn set_column(&mut self, at: usize, column: Column) -> Result<(), Refusal> {
         let Column { mach, reynolds } = column;
-        let answer = c::set_column(&mut self.words, at, mach, reynolds, self.cells);
+        let answer = c::set_column(&mut self.words, at, mach, reynolds, self.cells, self.marks);
         self.accept(answer)
     }
 
     /// The powered climb: a nozzle of this diameter, from 0 to 100, fills part of the base, or all
     /// of it where the last part is no wider. It stays through edits until burnout.
     pub fn ignite(&mut self, nozzle_diameter: f64) -> Result<(), Refusal> {
-        let answer = c::ignite(&mut self.words, nozzle_diameter, self.cells);
+        let answer = c::ignite(&mut self.words, nozzle_diameter, self.cells, self.marks);
         self.accept(answer)
     }
 
     /// Coasting again: the nozzle diameter is put back to 0.
     pub fn burnout(&mut self) -> Result<(), Refusal> {
-        let answer = c::burnout(&mut self.words, self.cells);
+        let answer = c::burnout(&mut self.words, self.cells, self.marks);
         self.accept(answer)
     }
 
@@ -252,6 +280,11 @@ impl<'cells> Sheet<'cells> {
         (place < self.part_count()).then(|| self.row(place))
     }
 
+    /// The marks of the part at a place, one for each column.
+    pub fn part_marks(&self, place: usize) -> Option<&[u8]> {
+        (place < self.part_count()).then(|| &self.marks[self.span(place)])
+    }
+
     /// Skin friction of the whole body in a finish, the first being 0.
     pub fn friction(&self, finish: usize) -> Option<&[f64]> {
         (finish < self.finish_count()).then(|| self.row(FRICTION + finish))
@@ -267,9 +300,20 @@ impl<'cells> Sheet<'cells> {
         (finish < self.finish_count()).then(|| self.row(self.base_row() + 1 + finish))
     }
 
+    /// The marks of the parts together, the same beside every finish's total.
+    pub fn total_marks(&self, finish: usize) -> Option<&[u8]> {
+        let row = self.base_row() + 1 + finish;
+        (finish < self.finish_count()).then(|| &self.marks[self.span(row)])
+    }
+
     /// All lent cells.
     pub fn cells(&self) -> &[f64] {
         self.cells
+    }
+
+    /// All lent marks, which lie as the cells do.
+    pub fn marks(&self) -> &[u8] {
+        self.marks
     }
 
     /// The sheet's words, as the C interface has them.
@@ -290,13 +334,18 @@ impl<'cells> Sheet<'cells> {
     }
 
     fn row(&self, row: usize) -> &[f64] {
+        &self.cells[self.span(row)]
+    }
+
+    /// Where a row lies among the cells and among the marks.
+    fn span(&self, row: usize) -> Range<usize> {
         let count = self.column_count();
-        &self.cells[row * count..(row + 1) * count]
+        row * count..(row + 1) * count
     }
 }
 
-/// What the program `sheet` prints for a stream of cards; for no bytes the names of a sheet with no
-/// columns and no parts.
+/// What the program `sheet` prints for a stream of cards, with a `+` right after each marked cell; for
+/// no bytes the names of a sheet with no columns and no parts.
 pub fn print(stream: &[u8]) -> String {
     let mut text = vec![0; LONGEST_TEXT];
     let length = c::print(stream, &mut text);

@@ -50,8 +50,8 @@ fn part(shape: Shape, aft_diameter: f64) -> Part {
 }
 
 /// A nose, a tube and a boattail that ends at 0.07.
-fn rocket(cells: &mut [f64]) -> Sheet<'_> {
-    let mut sheet = Sheet::open(&settings(), cells).unwrap();
+fn rocket<'lent>(cells: &'lent mut [f64], marks: &'lent mut [u8]) -> Sheet<'lent> {
+    let mut sheet = Sheet::open(&settings(), cells, marks).unwrap();
     let ogive = Shape::Ogive { radius_ratio: 1.0 };
     for (shape, d) in [(ogive, 0.1), (Shape::Conical, 0.1), (Shape::Conical, 0.07)] {
         sheet.push(&part(shape, d)).unwrap();
@@ -88,8 +88,8 @@ fn has_base(sheet: &Sheet, d: f64, n: f64) {
 /// and burnout brings the coasting rows back.
 #[test]
 fn ignited_and_burnt_out() {
-    let mut cells = [-3.0; CELLS + 1];
-    let mut sheet = rocket(&mut cells);
+    let (mut cells, mut marks) = ([-3.0; CELLS + 1], [0; CELLS + 1]);
+    let mut sheet = rocket(&mut cells, &mut marks);
     assert_eq!(sheet.nozzle_diameter().to_bits(), 0);
     has_base(&sheet, 0.07, 0.0);
     let (coasting, rows) = (bits(sheet.cells()), above(&sheet));
@@ -112,8 +112,8 @@ fn ignited_and_burnt_out() {
 /// Zero of either sign passes and is kept as it is.
 #[test]
 fn zero_nozzles() {
-    let mut cells = [0.0; CELLS];
-    let mut sheet = rocket(&mut cells);
+    let (mut cells, mut marks) = ([0.0; CELLS], [0; CELLS]);
+    let mut sheet = rocket(&mut cells, &mut marks);
     let coasting = bits(sheet.cells());
     for n in [0.0, -0.0] {
         sheet.ignite(n).unwrap();
@@ -125,8 +125,8 @@ fn zero_nozzles() {
 /// Every edit keeps the nozzle and writes its base with it.
 #[test]
 fn edits_while_burning() {
-    let mut cells = [0.0; CELLS];
-    let mut sheet = rocket(&mut cells);
+    let (mut cells, mut marks) = ([0.0; CELLS], [0; CELLS]);
+    let mut sheet = rocket(&mut cells, &mut marks);
     sheet.ignite(0.05).unwrap();
     sheet.push(&part(Shape::Conical, 0.06)).unwrap();
     has_base(&sheet, 0.06, 0.05);
@@ -148,8 +148,8 @@ fn edits_while_burning() {
 /// Outside [0, 100] it is refused, coasting or burning, and nothing is changed.
 #[test]
 fn ignite_refused() {
-    let mut cells = [0.0; CELLS];
-    let mut sheet = rocket(&mut cells);
+    let (mut cells, mut marks) = ([0.0; CELLS], [0; CELLS]);
+    let mut sheet = rocket(&mut cells, &mut marks);
     for held in [0.0, 0.05, 100.0] {
         sheet.ignite(held).unwrap();
         let (words, before) = (*sheet.words(), bits(sheet.cells()));
@@ -163,23 +163,25 @@ fn ignite_refused() {
     }
 }
 
-/// Each call that is given a sheet, by words, all refused with the same number; words and cells are
-/// left.
+/// Each call that is given a sheet, by words, all refused with the same number; words, cells and marks
+/// are left.
 fn all_refused(given: &SheetWords, cells: &[f64], number: u32) {
     let nose = [0; words::PART_WORDS];
-    type Call<'a> = &'a dyn Fn(&mut SheetWords, &mut [f64]) -> (u32, u64);
+    type Call<'a> = &'a dyn Fn(&mut SheetWords, &mut [f64], &mut [u8]) -> (u32, u64);
     let calls: [Call; 6] = [
-        &|sheet, cells| words::insert(sheet, 99, &nose, cells),
-        &|sheet, cells| words::replace(sheet, 99, &nose, cells),
-        &|sheet, cells| words::remove(sheet, 99, cells),
-        &|sheet, cells| words::set_column(sheet, 99, 0.0, 0.0, cells),
-        &|sheet, cells| words::ignite(sheet, f64::NAN, cells),
-        &|sheet, cells| words::burnout(sheet, cells),
+        &|sheet, cells, marks| words::insert(sheet, 99, &nose, cells, marks),
+        &|sheet, cells, marks| words::replace(sheet, 99, &nose, cells, marks),
+        &|sheet, cells, marks| words::remove(sheet, 99, cells, marks),
+        &|sheet, cells, marks| words::set_column(sheet, 99, 0.0, 0.0, cells, marks),
+        &|sheet, cells, marks| words::ignite(sheet, f64::NAN, cells, marks),
+        &|sheet, cells, marks| words::burnout(sheet, cells, marks),
     ];
     for (at, call) in calls.iter().enumerate() {
-        let (mut sheet, mut lent) = (*given, cells.to_vec());
-        assert_eq!(call(&mut sheet, &mut lent), (number, 0), "call {at}");
+        let (mut sheet, mut lent, mut marks) = (*given, cells.to_vec(), vec![7; cells.len()]);
+        let answer = call(&mut sheet, &mut lent, &mut marks);
+        assert_eq!(answer, (number, 0), "call {at}");
         assert_eq!((&sheet, bits(&lent)), (given, bits(cells)), "call {at}");
+        assert!(marks.iter().all(|&mark| mark == 7), "call {at}");
     }
 }
 
@@ -187,8 +189,8 @@ fn all_refused(given: &SheetWords, cells: &[f64], number: u32) {
 /// at it, and a shape that is none comes before all.
 #[test]
 fn held_nozzles() {
-    let mut cells = [0.0; CELLS];
-    let mut sheet = rocket(&mut cells);
+    let (mut cells, mut marks) = ([0.0; CELLS], [0; CELLS]);
+    let mut sheet = rocket(&mut cells, &mut marks);
     sheet.ignite(0.05).unwrap();
     let (mut given, cells) = (*sheet.words(), sheet.cells().to_vec());
     given[PARTS_AT] = 17;
@@ -197,11 +199,12 @@ fn held_nozzles() {
         given[NOZZLE_AT] = bad.to_bits();
         all_refused(&given, &cells, 11);
         all_refused(&given, &cells[1..], 10);
-        let (mut opened, mut lent) = (given, cells.clone());
-        assert_eq!(words::open(&mut opened, &mut lent), (0, 0));
+        let (mut opened, mut lent, mut marks) = (given, cells.clone(), [0; CELLS]);
+        let answer = words::open(&mut opened, &mut lent, &mut marks);
+        assert_eq!(answer, (0, 0));
         assert_eq!((opened[NOZZLE_AT], opened[PARTS_AT]), (0, 0));
         let mut refused = given;
-        assert_eq!(words::open(&mut refused, &mut []), (10, 0));
+        assert_eq!(words::open(&mut refused, &mut [], &mut []), (10, 0));
         assert_eq!(refused, given);
     }
     given[words::FIRST_PART] = 6;

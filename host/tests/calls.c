@@ -1,5 +1,6 @@
 /* Each function of the C interface once accepted and once refused, and the
- * typed functions over them. The sheet and the cards are in sheets.c. The exit
+ * typed functions over them. The sheet and the cards are in sheets.c,
+ * burning.c, finishes.c and marks.c. The exit
  * status is 1 if a test failed. */
 #include "check.h"
 
@@ -70,14 +71,17 @@ static void bits_of_numbers(void)
 
 static void raw_noses(void)
 {
-    uint64_t two[2] = {7, 7}, three[3] = {7, 7, 7};
+    uint64_t two[2] = {7, 7}, four[4] = {7, 7, 7, 7};
     CHECK(cobalnis_nose_point(COBALNIS_NOSE_ELLIPSOID, 0, two) == 0);
     CHECK(cobalnis_double(two[0]) == 1.2 && cobalnis_double(two[1]) == 0.111);
     CHECK(cobalnis_nose_point(COBALNIS_NOSE_ELLIPSOID, 12, two) == COBALNIS_NO_PLACE);
     CHECK(cobalnis_nose_point(9, 0, two) == COBALNIS_NO_SUCH);
-    CHECK(cobalnis_nose_lookup(9, 1, three) == COBALNIS_NO_SUCH && three[0] == 7);
-    CHECK(cobalnis_nose_lookup(COBALNIS_NOSE_ELLIPSOID, 1.2, three) == 0);
-    CHECK(cobalnis_double(three[0]) == 0.111 && cobalnis_double(three[2]) == 1.2);
+    CHECK(cobalnis_nose_lookup(9, 1, four) == COBALNIS_NO_SUCH && four[0] == 7 && four[3] == 7);
+    CHECK(cobalnis_nose_lookup(COBALNIS_NOSE_ELLIPSOID, 1.2, four) == 0);
+    CHECK(cobalnis_double(four[0]) == 0.111 && cobalnis_double(four[2]) == 1.2 && four[3] == 0);
+    CHECK(cobalnis_nose_lookup(COBALNIS_NOSE_ELLIPSOID, 3.587, four) == 0 && four[3] == 0);
+    CHECK(cobalnis_nose_lookup(COBALNIS_NOSE_ELLIPSOID, INFINITY, four) == 0 && four[3] == 1);
+    CHECK(cobalnis_nose_lookup(COBALNIS_NOSE_ELLIPSOID, NAN, four) == 0 && four[3] == 0);
 }
 
 static void raw_walk(void)
@@ -127,18 +131,24 @@ static void raw_curve(void)
     const double machs[2] = {0, 1};
     const double bad[2] = {0, -1};
     uint64_t out[2] = {7, 7}, about[3] = {7, 7, 7};
-    CHECK(cobalnis_curve(COBALNIS_STEP, NAN, NAN, NAN, machs, 2, out, 2, about) == 0);
+    uint8_t marks[2] = {7, 7};
+    CHECK(cobalnis_curve(COBALNIS_STEP, NAN, NAN, NAN, machs, 2, out, 2, marks, 2, about) == 0);
     CHECK(cobalnis_double(out[0]) == 0.85 && cobalnis_double(about[1]) == 0.85);
-    CHECK(about[0] == 0 && about[2] == 0);
-    CHECK(cobalnis_curve(COBALNIS_STEP, 0, 0, 0, machs, 2, out, 1, about) == COBALNIS_FEW_CELLS);
-    CHECK(cobalnis_curve(COBALNIS_STEP, 0, 0, 0, bad, 2, out, 2, about) ==
+    CHECK(about[0] == 0 && about[2] == 0 && marks[0] == 0 && marks[1] == 0);
+    marks[0] = marks[1] = 7;
+    CHECK(cobalnis_curve(COBALNIS_STEP, 0, 0, 0, machs, 2, out, 1, marks, 2, about) ==
+          COBALNIS_FEW_CELLS);
+    CHECK(cobalnis_curve(COBALNIS_STEP, 0, 0, 0, machs, 2, out, 2, marks, 1, about) ==
+          COBALNIS_FEW_CELLS);
+    CHECK(cobalnis_curve(COBALNIS_STEP, 0, 0, 0, bad, 2, out, 2, marks, 2, about) ==
           DOMAIN_OF(COBALNIS_MACH));
     CHECK(cobalnis_double(about[0]) == -1);
-    CHECK(cobalnis_curve(COBALNIS_OGIVE, 0.9, 1, 0, machs, 2, out, 2, about) ==
+    CHECK(cobalnis_curve(COBALNIS_OGIVE, 0.9, 1, 0, machs, 2, out, 2, marks, 2, about) ==
           COBALNIS_OGIVE_RATIO);
-    CHECK(cobalnis_curve(COBALNIS_HAACK, 0.4, 1, 0, machs, 2, out, 2, about) ==
+    CHECK(cobalnis_curve(COBALNIS_HAACK, 0.4, 1, 0, machs, 2, out, 2, marks, 2, about) ==
           COBALNIS_HAACK_ABOVE);
-    CHECK(cobalnis_curve(7, 0, 1, 0, machs, 2, out, 2, about) == COBALNIS_NO_SUCH);
+    CHECK(cobalnis_curve(7, 0, 1, 0, machs, 2, out, 2, marks, 2, about) == COBALNIS_NO_SUCH);
+    CHECK(marks[0] == 7 && marks[1] == 7);
 }
 
 static void steps(void)
@@ -196,9 +206,12 @@ static void nose_formulas(void)
 
     CHECK(cobalnis_stoney_point(COBALNIS_NOSE_VON_KARMAN, 0, &x, &y) == 0 && x == 0.8 && y == 0);
     CHECK(cobalnis_stoney_point(COBALNIS_NOSE_VON_KARMAN, 18, &x, &y) == COBALNIS_NO_PLACE);
-    CHECK(cobalnis_stoney_value_and_slope(COBALNIS_NOSE_ELLIPSOID, 5, &x, &y) == 0);
-    CHECK(x == 0.158 && y == 0);
-    CHECK(cobalnis_stoney_value_and_slope(9, 5, &x, &y) == COBALNIS_NO_SUCH);
+    bool beyond = false;
+    CHECK(cobalnis_stoney_value_and_slope(COBALNIS_NOSE_ELLIPSOID, 5, &x, &y, &beyond) == 0);
+    CHECK(x == 0.158 && y == 0 && beyond);
+    CHECK(cobalnis_stoney_value_and_slope(COBALNIS_NOSE_ELLIPSOID, 3.587, &x, &y, &beyond) == 0);
+    CHECK(x == 0.158 && y == 0 && !beyond);
+    CHECK(cobalnis_stoney_value_and_slope(9, 5, &x, &y, NULL) == COBALNIS_NO_SUCH);
     CHECK(cobalnis_stoney_first_mach(COBALNIS_NOSE_POWER_QUARTER, &x) == 0 && x == 1.2);
     CHECK(cobalnis_stoney_first_mach(9, &x) == COBALNIS_NO_SUCH && x == 1.2);
 }
@@ -233,16 +246,24 @@ static void curves(void)
 {
     const double machs[3] = {0.8, 1.2, 2};
     double out[3] = {7, 7, 7}, x = 7;
+    uint8_t marks[3] = {7, 7, 7};
+    bool beyond = true;
     cobalnis_pressure_drag_curve curve = cobalnis_curve_step();
     CHECK(curve.rest_coefficient == 0.85 && curve.transonic_lower_bound == 0);
-    CHECK(cobalnis_curve_coefficient(&curve, 0, &x) == 0 && x == 0.85);
+    CHECK(cobalnis_curve_coefficient(&curve, 0, &x, &beyond) == 0 && x == 0.85 && !beyond);
     CHECK(cobalnis_curve_new(COBALNIS_POWER_SERIES, NAN, -0.0, 0, &curve, &x) == 0);
     CHECK(curve.rest_coefficient == 0.85);
     CHECK(cobalnis_curve_new(COBALNIS_HAACK, 1.0 / 3, 3, 0, &curve, &x) == 0);
     CHECK(curve.transonic_lower_bound == 0.8);
-    CHECK(cobalnis_curve_coefficients(&curve, machs, 3, out, &x) == 0 && out[0] == 0);
+    CHECK(cobalnis_curve_coefficients(&curve, machs, 3, out, marks, &x) == 0 && out[0] == 0);
     CHECK(out[1] > 0.1 && out[1] < 0.101);
-    CHECK(cobalnis_curve_coefficient(&curve, -1, &x) == DOMAIN_OF(COBALNIS_MACH) && x == -1);
+    CHECK(marks[0] == 0 && marks[1] == 0 && marks[2] == 1);
+    /* von Karman's own table ends at 1.994, LV-Haack's, of weight 0 here, at 1.977. */
+    CHECK(cobalnis_curve_new(COBALNIS_HAACK, 0, 3, 0, &curve, &x) == 0);
+    CHECK(cobalnis_curve_coefficient(&curve, 1.977, &x, &beyond) == 0 && !beyond);
+    CHECK(cobalnis_curve_coefficient(&curve, 1.98, &x, &beyond) == 0 && beyond);
+    CHECK(cobalnis_curve_coefficient(&curve, -1, &x, &beyond) == DOMAIN_OF(COBALNIS_MACH));
+    CHECK(x == -1 && beyond);
     CHECK(cobalnis_curve_new(COBALNIS_CONICAL, 0, 1, NAN, &curve, &x) ==
           DOMAIN_OF(COBALNIS_JOINT_ANGLE));
     CHECK(isnan(x) && curve.transonic_lower_bound == 0.8);
@@ -265,6 +286,8 @@ int main(void)
     arguments_in_order();
     curves();
     sheets_and_cards();
+    burning();
     finishes();
+    marked_sheets();
     return failures > 0;
 }

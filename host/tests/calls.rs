@@ -1,6 +1,6 @@
 //! Each function of the wrapper, accepted and refused, with the values of docs/REFERENCE.md,
 //! Values. The sheet, the cards and `print` are in sheets.rs, burning and coasting in burning.rs,
-//! finishes in finishes.rs.
+//! finishes in finishes.rs, marks in marks.rs.
 
 mod common;
 
@@ -286,19 +286,22 @@ fn words_that_name_nothing() {
     assert_eq!(words::check_dimension(23, 1.0, true), (65535, 0));
     assert_eq!(words::takes_cone_formula(6, 1.0), 65535);
     assert_eq!(words::nose_point(9, 0), (65535, [0; 2]));
-    assert_eq!(words::nose_lookup(9, 1.0), (65535, [0; 3]));
+    assert_eq!(words::nose_lookup(9, 1.0), (65535, [0; 4]));
     let mut count = 7;
     assert_eq!(words::nose_walk(9, &[], &mut [], &mut count), (65535, 0));
     assert_eq!(count, 7);
-    assert_eq!(words::curve(7, [1.0; 3], &[], &mut []), (65535, [0; 3]));
-    let mut longer = [7; 2];
-    assert_eq!(words::curve(6, [1.0; 3], &[0.0], &mut longer).0, 0);
-    assert_eq!(longer, [0.85f64.to_bits(), 7]);
-    let (status, about) = words::curve(6, [1.0; 3], &[0.0], &mut []);
-    assert_eq!((status, about[1]), (10, 0.85f64.to_bits()));
+    let none = words::curve(7, [1.0; 3], &[], &mut [], &mut []);
+    assert_eq!(none, (65535, [0; 3]));
+    let (mut longer, mut marks) = ([7; 2], [7; 3]);
+    let step = |out: &mut [u64], marks: &mut [u8]| words::curve(6, [1.0; 3], &[0.0], out, marks);
+    assert_eq!(step(&mut longer, &mut marks).0, 0);
+    assert_eq!((longer, marks), ([0.85f64.to_bits(), 7], [0, 7, 7]));
+    for (status, about) in [step(&mut [], &mut [7]), step(&mut [7], &mut [])] {
+        assert_eq!((status, about[1]), (10, 0.85f64.to_bits()));
+    }
     let mut sheet = [0; words::SHEET_WORDS];
     sheet[words::SHEET_WORDS - words::PART_WORDS] = 6;
-    assert_eq!(words::remove(&mut sheet, 0, &mut []), (5, 0));
+    assert_eq!(words::remove(&mut sheet, 0, &mut [], &mut []), (5, 0));
     assert_eq!(
         words::print(&stream(), &mut [0; words::LONGEST_TEXT - 1]),
         0

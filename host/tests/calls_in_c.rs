@@ -1,8 +1,9 @@
-//! Compiles tests/calls.c, tests/sheets.c and tests/finishes.c against the header and the archive, and
-//! runs them.
+//! Compiles the tests in C against the header and the archive, and runs them.
 
 use std::path::Path;
 use std::process::Command;
+
+const FILES: [&str; 5] = ["calls.c", "sheets.c", "burning.c", "finishes.c", "marks.c"];
 
 #[test]
 fn calls_in_c() {
@@ -12,9 +13,7 @@ fn calls_in_c() {
         .args(["-std=c11", "-Wall", "-Wextra", "-Werror", "-O2"])
         .arg("-I")
         .arg(here.join("include"))
-        .arg(here.join("tests/calls.c"))
-        .arg(here.join("tests/sheets.c"))
-        .arg(here.join("tests/finishes.c"))
+        .args(FILES.map(|file| here.join("tests").join(file)))
         .arg(env!("COBALNIS_ARCHIVE"))
         .args(["-lm", "-o"])
         .arg(&program)

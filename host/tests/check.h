@@ -22,8 +22,19 @@ extern int failures;
 
 static const uint64_t SHOWN_NAN = 0x7ff8000000000000u;
 
-/* The tests of sheets.c and of finishes.c. */
+/* What a call is lent of the arrays `cells` and `marks`: so many of either. */
+#define LENT(count) cells, (count), marks, (count)
+
+/* The rows of a sheet of one finish. */
+enum { FRICTION = COBALNIS_PLACES, BASE, TOTAL, ROWS };
+
+/* The part of docs/REFERENCE.md, Example. */
+static const cobalnis_part FACE = {.shape = COBALNIS_CONICAL, .aft_diameter = 1};
+
+/* The tests of sheets.c, burning.c, finishes.c and marks.c. */
 void sheets_and_cards(void);
+void burning(void);
 void finishes(void);
+void marked_sheets(void);
 
 #endif

@@ -21,20 +21,20 @@ static cobalnis_sheet blank(size_t first, uint64_t finishes)
 
 /* The same calls on any such sheet; its cells are then those of a polished
  * nose, a tube and a burning nozzle. */
-static void fly(cobalnis_sheet *sheet, double *cells)
+static void fly(cobalnis_sheet *sheet, double *cells, uint8_t *marks)
 {
     const size_t count = cobalnis_sheet_cells(sheet);
     cobalnis_part nose = {.shape = COBALNIS_OGIVE, .parameter = 1, .length = 0.3,
                           .aft_diameter = 0.1, .wetted_ratio = 9,
                           .own_roughness = 1, .roughness = 1e-6};
-    CHECK(cobalnis_sheet_open(sheet, cells, count, NULL) == 0);
-    CHECK(cobalnis_sheet_insert(sheet, 0, TUBE, cells, count, NULL) == 0);
-    CHECK(cobalnis_sheet_insert(sheet, 0, TUBE, cells, count, NULL) == 0);
-    CHECK(cobalnis_sheet_insert(sheet, 1, nose, cells, count, NULL) == 0);
-    CHECK(cobalnis_sheet_remove(sheet, 0, cells, count, NULL) == 0);
-    CHECK(cobalnis_sheet_replace(sheet, 1, TUBE, cells, count, NULL) == 0);
-    CHECK(cobalnis_sheet_set_column(sheet, 0, 0.5, 1e7, cells, count, NULL) == 0);
-    CHECK(cobalnis_sheet_ignite(sheet, 0.03, cells, count, NULL) == 0);
+    CHECK(cobalnis_sheet_open(sheet, LENT(count), NULL) == 0);
+    CHECK(cobalnis_sheet_insert(sheet, 0, TUBE, LENT(count), NULL) == 0);
+    CHECK(cobalnis_sheet_insert(sheet, 0, TUBE, LENT(count), NULL) == 0);
+    CHECK(cobalnis_sheet_insert(sheet, 1, nose, LENT(count), NULL) == 0);
+    CHECK(cobalnis_sheet_remove(sheet, 0, LENT(count), NULL) == 0);
+    CHECK(cobalnis_sheet_replace(sheet, 1, TUBE, LENT(count), NULL) == 0);
+    CHECK(cobalnis_sheet_set_column(sheet, 0, 0.5, 1e7, LENT(count), NULL) == 0);
+    CHECK(cobalnis_sheet_ignite(sheet, 0.03, LENT(count), NULL) == 0);
 }
 
 static void as_each_alone(void)
@@ -42,13 +42,14 @@ static void as_each_alone(void)
     const size_t row = PAIR * sizeof(double);
     for (size_t finishes = 1; finishes <= COBALNIS_FINISHES; finishes++) {
         double cells[COBALNIS_CELLS], alone[COBALNIS_CELLS];
+        uint8_t marks[COBALNIS_CELLS];
         cobalnis_sheet sheet = blank(0, finishes);
         CHECK(cobalnis_sheet_rows(&sheet) == 17 + 2 * finishes);
         CHECK(cobalnis_sheet_cells(&sheet) == (17 + 2 * finishes) * PAIR);
-        fly(&sheet, cells);
+        fly(&sheet, cells, marks);
         for (size_t i = 0; i < finishes; i++) {
             cobalnis_sheet one = blank(i, 1);
-            fly(&one, alone);
+            fly(&one, alone, marks);
             CHECK(memcmp(cells, alone, COBALNIS_PLACES * row) == 0);
             CHECK(memcmp(cobalnis_sheet_part_row(&sheet, 1, cells),
                          cobalnis_sheet_part_row(&one, 1, alone), row) == 0);
@@ -71,9 +72,10 @@ static void count_refused(void)
 {
     static const uint64_t BAD[] = {0, 5, UINT64_C(1) << 32, UINT64_MAX};
     double cells[COBALNIS_CELLS], kept[COBALNIS_CELLS], x = 7;
+    uint8_t marks[COBALNIS_CELLS];
     cobalnis_sheet whole = blank(0, 2);
     const size_t count = cobalnis_sheet_cells(&whole);
-    fly(&whole, cells);
+    fly(&whole, cells, marks);
     memcpy(kept, cells, count * sizeof *cells);
     for (size_t i = 0; i < sizeof BAD / sizeof BAD[0]; i++) {
         cobalnis_sheet sheet = whole;
@@ -82,18 +84,18 @@ static void count_refused(void)
         sheet.body_fineness = 0;
         sheet.parts = 17;
         const cobalnis_sheet given = sheet;
-        CHECK(cobalnis_sheet_open(&sheet, cells, 0, &x) == COBALNIS_FINISH_COUNT && x == 0);
-        CHECK(cobalnis_sheet_insert(&sheet, 9, TUBE, cells, 0, &x) == COBALNIS_FINISH_COUNT);
-        CHECK(cobalnis_sheet_replace(&sheet, 9, TUBE, cells, 0, &x) == COBALNIS_FINISH_COUNT);
-        CHECK(cobalnis_sheet_remove(&sheet, 9, cells, 0, &x) == COBALNIS_FINISH_COUNT);
-        CHECK(cobalnis_sheet_set_column(&sheet, 9, 0, 0, cells, 0, &x) == COBALNIS_FINISH_COUNT);
-        CHECK(cobalnis_sheet_ignite(&sheet, NAN, cells, 0, &x) == COBALNIS_FINISH_COUNT);
-        CHECK(cobalnis_sheet_burnout(&sheet, cells, 0, &x) == COBALNIS_FINISH_COUNT);
+        CHECK(cobalnis_sheet_open(&sheet, LENT(0), &x) == COBALNIS_FINISH_COUNT && x == 0);
+        CHECK(cobalnis_sheet_insert(&sheet, 9, TUBE, LENT(0), &x) == COBALNIS_FINISH_COUNT);
+        CHECK(cobalnis_sheet_replace(&sheet, 9, TUBE, LENT(0), &x) == COBALNIS_FINISH_COUNT);
+        CHECK(cobalnis_sheet_remove(&sheet, 9, LENT(0), &x) == COBALNIS_FINISH_COUNT);
+        CHECK(cobalnis_sheet_set_column(&sheet, 9, 0, 0, LENT(0), &x) == COBALNIS_FINISH_COUNT);
+        CHECK(cobalnis_sheet_ignite(&sheet, NAN, LENT(0), &x) == COBALNIS_FINISH_COUNT);
+        CHECK(cobalnis_sheet_burnout(&sheet, LENT(0), &x) == COBALNIS_FINISH_COUNT);
         CHECK(memcmp(&sheet, &given, sizeof sheet) == 0);
         sheet.reference_diameter = 0;
-        CHECK(cobalnis_sheet_open(&sheet, cells, 0, &x) == COBALNIS_HOUSE_INTERVAL);
+        CHECK(cobalnis_sheet_open(&sheet, LENT(0), &x) == COBALNIS_HOUSE_INTERVAL);
         sheet.columns = 33;
-        CHECK(cobalnis_sheet_burnout(&sheet, cells, 0, &x) == COBALNIS_MANY_COLUMNS);
+        CHECK(cobalnis_sheet_burnout(&sheet, LENT(0), &x) == COBALNIS_MANY_COLUMNS);
     }
     CHECK(memcmp(cells, kept, count * sizeof *cells) == 0);
 }
@@ -102,16 +104,17 @@ static void count_refused(void)
 static void roughness_refused(void)
 {
     double cells[COBALNIS_CELLS], x = 7;
+    uint8_t marks[COBALNIS_CELLS];
     for (size_t finishes = 1; finishes <= COBALNIS_FINISHES; finishes++) {
         for (size_t at = 0; at < COBALNIS_FINISHES; at++) {
             cobalnis_sheet sheet = blank(0, finishes);
             const size_t count = cobalnis_sheet_cells(&sheet);
             sheet.roughnesses[at] = 1.5;
             const uint32_t wanted = at < finishes ? COBALNIS_HOUSE_INTERVAL : 0;
-            CHECK(cobalnis_sheet_open(&sheet, cells, count, &x) == wanted);
+            CHECK(cobalnis_sheet_open(&sheet, LENT(count), &x) == wanted);
             sheet.roughnesses[at] = at % 2 == 0 ? -0.0 : 1;
-            CHECK(cobalnis_sheet_open(&sheet, cells, count - 1, &x) == COBALNIS_FEW_CELLS);
-            CHECK(cobalnis_sheet_open(&sheet, cells, count, &x) == 0);
+            CHECK(cobalnis_sheet_open(&sheet, LENT(count - 1), &x) == COBALNIS_FEW_CELLS);
+            CHECK(cobalnis_sheet_open(&sheet, LENT(count), &x) == 0);
             CHECK(cobalnis_bits(sheet.roughnesses[0]) ==
                   cobalnis_bits(at == 0 ? -0.0 : ROUGHNESSES[0]));
         }

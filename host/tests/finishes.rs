@@ -72,10 +72,12 @@ fn same_rows(sheet: &Sheet, finish: usize, alone: &Sheet) {
         bits(alone.total(0).unwrap())
     );
     assert_eq!(bits(sheet.base()), bits(alone.base()));
+    assert_eq!(sheet.total_marks(finish), alone.total_marks(0));
     assert_eq!(sheet.part_count(), alone.part_count());
     for place in 0..sheet.part_count() {
         assert_eq!(sheet.part(place), alone.part(place));
         assert_eq!(sheet.part_row(place), alone.part_row(place));
+        assert_eq!(sheet.part_marks(place), alone.part_marks(place));
     }
 }
 
@@ -84,14 +86,14 @@ fn side_by_side() {
     for count in 1..=FINISHES {
         let finishes = &ROUGHNESSES[..count];
         let all = settings(finishes);
-        let mut cells = vec![-3.0; all.cell_count() + 1];
         let past = all.cell_count();
-        let mut sheet = Sheet::open(&all, &mut cells).unwrap();
+        let (mut cells, mut marks) = (vec![-3.0; past + 1], vec![7; past + 1]);
+        let mut sheet = Sheet::open(&all, &mut cells, &mut marks).unwrap();
         assert_eq!((sheet.finish_count(), sheet.settings()), (count, all));
-        let mut lent = vec![vec![0.0; 3 * rows(1)]; count];
+        let mut lent = vec![([0.0; 3 * rows(1)], [0; 3 * rows(1)]); count];
         let mut alone = Vec::new();
-        for (cells, &finish) in lent.iter_mut().zip(finishes) {
-            alone.push(Sheet::open(&settings(&[finish]), cells).unwrap());
+        for ((cells, marks), &finish) in lent.iter_mut().zip(finishes) {
+            alone.push(Sheet::open(&settings(&[finish]), cells, marks).unwrap());
         }
         for edit in edits() {
             let answer = edit(&mut sheet);
@@ -101,7 +103,7 @@ fn side_by_side() {
             }
         }
         assert_eq!((sheet.friction(count), sheet.total(count)), (None, None));
-        assert_eq!(sheet.cells()[past], -3.0);
+        assert_eq!((sheet.cells()[past], sheet.marks()[past]), (-3.0, 7));
     }
 }
 
@@ -109,8 +111,8 @@ fn side_by_side() {
 #[test]
 fn by_hand() {
     let all = settings(&ROUGHNESSES[1..]);
-    let mut cells = vec![0.0; all.cell_count()];
-    let mut sheet = Sheet::open(&all, &mut cells).unwrap();
+    let (mut cells, mut marks) = (vec![0.0; all.cell_count()], vec![0; all.cell_count()]);
+    let mut sheet = Sheet::open(&all, &mut cells, &mut marks).unwrap();
     sheet.push(&part(0.1, Some(2e-6))).unwrap();
     sheet.push(&part(0.1, None)).unwrap();
     let added = |roughness| {
@@ -136,7 +138,7 @@ fn by_hand() {
 }
 
 fn opened(settings: &Settings, cells: usize) -> Result<(), Refusal> {
-    Sheet::open(settings, &mut vec![0.0; cells]).map(|_| ())
+    Sheet::open(settings, &mut vec![0.0; cells], &mut vec![0; cells]).map(|_| ())
 }
 
 /// 19 for none and for more than four, after 7 and 11 for D and before all else.
@@ -179,18 +181,19 @@ fn roughnesses_and_cells() {
 /// Each call that is given a sheet, by words, all answered with the same number.
 fn all_answered(given: &SheetWords, cells: &[f64], number: u32) {
     let tube = [0; words::PART_WORDS];
-    type Call<'a> = &'a dyn Fn(&mut SheetWords, &mut [f64]) -> (u32, u64);
+    type Call<'a> = &'a dyn Fn(&mut SheetWords, &mut [f64], &mut [u8]) -> (u32, u64);
     let calls: [Call; 6] = [
-        &|sheet, cells| words::insert(sheet, 0, &tube, cells),
-        &|sheet, cells| words::replace(sheet, 0, &tube, cells),
-        &|sheet, cells| words::remove(sheet, 0, cells),
-        &|sheet, cells| words::set_column(sheet, 0, 0.0, 0.0, cells),
-        &|sheet, cells| words::ignite(sheet, 0.01, cells),
-        &|sheet, cells| words::burnout(sheet, cells),
+        &|sheet, cells, marks| words::insert(sheet, 0, &tube, cells, marks),
+        &|sheet, cells, marks| words::replace(sheet, 0, &tube, cells, marks),
+        &|sheet, cells, marks| words::remove(sheet, 0, cells, marks),
+        &|sheet, cells, marks| words::set_column(sheet, 0, 0.0, 0.0, cells, marks),
+        &|sheet, cells, marks| words::ignite(sheet, 0.01, cells, marks),
+        &|sheet, cells, marks| words::burnout(sheet, cells, marks),
     ];
     for (at, call) in calls.iter().enumerate() {
-        let (mut sheet, mut lent) = (*given, cells.to_vec());
-        assert_eq!(call(&mut sheet, &mut lent), (number, 0), "call {at}");
+        let (mut sheet, mut lent, mut marks) = (*given, cells.to_vec(), vec![0; cells.len()]);
+        let answer = call(&mut sheet, &mut lent, &mut marks);
+        assert_eq!(answer, (number, 0), "call {at}");
         if number != 0 {
             assert_eq!((&sheet, bits(&lent)), (given, bits(cells)), "call {at}");
         }
@@ -201,8 +204,8 @@ fn all_answered(given: &SheetWords, cells: &[f64], number: u32) {
 #[test]
 fn by_words() {
     let all = settings(&ROUGHNESSES[..2]);
-    let mut cells = vec![0.0; all.cell_count()];
-    let mut sheet = Sheet::open(&all, &mut cells).unwrap();
+    let (mut cells, mut marks) = (vec![0.0; all.cell_count()], vec![0; all.cell_count()]);
+    let mut sheet = Sheet::open(&all, &mut cells, &mut marks).unwrap();
     sheet.push(&part(0.1, None)).unwrap();
     let (whole, cells) = (*sheet.words(), sheet.cells().to_vec());
     for count in [0, 5, 1 << 32, (1 << 32) + 2, u64::MAX] {
@@ -214,7 +217,7 @@ fn by_words() {
         given[PARTS_AT] = 17;
         all_answered(&given, &[], 19);
         let mut opened = given;
-        assert_eq!(words::open(&mut opened, &mut []), (19, 0));
+        assert_eq!(words::open(&mut opened, &mut [], &mut []), (19, 0));
         assert_eq!(opened, given);
     }
     for at in 0..FINISHES {

@@ -1,5 +1,5 @@
 //! The wrapper's sheet, cards and `print`, accepted and refused, with the values of
-//! docs/REFERENCE.md, Example.
+//! docs/REFERENCE.md, Example. The marks are in marks.rs.
 
 mod common;
 
@@ -46,8 +46,8 @@ const FACE: Part = Part {
 
 #[test]
 fn the_papers_sheet() {
-    let mut cells = [-3.0; ROWS + 1];
-    let mut sheet = Sheet::open(&settings(), &mut cells).unwrap();
+    let (mut cells, mut marks) = ([-3.0; ROWS + 1], [0; ROWS + 1]);
+    let mut sheet = Sheet::open(&settings(), &mut cells, &mut marks).unwrap();
     assert_eq!((sheet.column_count(), sheet.part_count()), (1, 0));
     assert_eq!(sheet.part_row(0), None);
     sheet.push(&FACE).unwrap();
@@ -67,8 +67,8 @@ fn the_papers_sheet() {
 
 #[test]
 fn edits() {
-    let mut cells = [0.0; ROWS];
-    let mut sheet = Sheet::open(&settings(), &mut cells).unwrap();
+    let (mut cells, mut marks) = ([0.0; ROWS], [0; ROWS]);
+    let mut sheet = Sheet::open(&settings(), &mut cells, &mut marks).unwrap();
     let half = Part {
         aft_diameter: 0.5,
         ..FACE
@@ -94,8 +94,8 @@ fn edits() {
 /// A refused call leaves everything as it was.
 #[test]
 fn edits_refused() {
-    let mut cells = [0.0; ROWS];
-    let mut sheet = Sheet::open(&settings(), &mut cells).unwrap();
+    let (mut cells, mut marks) = ([0.0; ROWS], [0; ROWS]);
+    let mut sheet = Sheet::open(&settings(), &mut cells, &mut marks).unwrap();
     for place in 0..PLACES {
         sheet.insert(place, &FACE).unwrap();
     }
@@ -140,9 +140,10 @@ fn nan_cells_have_the_papers_bits() {
         body_fineness: 1e-320,
         ..settings()
     };
-    let mut cells = [-f64::NAN; ROWS + 1];
+    let (mut cells, mut marks) = ([-f64::NAN; ROWS + 1], [0; ROWS + 1]);
     let past = cells[ROWS].to_bits();
-    let mut sheet = Sheet::open(&settings, &mut cells).expect("a fineness above 0 is taken");
+    let mut sheet =
+        Sheet::open(&settings, &mut cells, &mut marks).expect("a fineness above 0 is taken");
     assert_eq!(friction(&sheet).to_bits(), 0);
     assert_eq!(sheet.base()[0].to_bits(), 0);
     sheet.push(&FACE).unwrap();
@@ -168,8 +169,8 @@ fn roughness_of_its_own() {
         roughnesses: vec![1e-2],
         ..settings()
     };
-    let mut cells = [0.0; ROWS];
-    let mut sheet = Sheet::open(&settings, &mut cells).unwrap();
+    let (mut cells, mut marks) = ([0.0; ROWS], [0; ROWS]);
+    let mut sheet = Sheet::open(&settings, &mut cells, &mut marks).unwrap();
     let column = Column {
         mach: 0.0,
         reynolds: 1e6,
@@ -198,8 +199,8 @@ fn roughness_of_its_own() {
 /// Outside [0, 1] it is refused, and nothing is changed.
 #[test]
 fn roughness_of_its_own_refused() {
-    let mut cells = [0.0; ROWS];
-    let mut sheet = Sheet::open(&settings(), &mut cells).unwrap();
+    let (mut cells, mut marks) = ([0.0; ROWS], [0; ROWS]);
+    let mut sheet = Sheet::open(&settings(), &mut cells, &mut marks).unwrap();
     sheet.push(&finished(Some(1.0))).unwrap();
     let words = *sheet.words();
     let before = sheet.cells().to_vec();
@@ -215,18 +216,18 @@ fn roughness_of_its_own_refused() {
 /// makes it the part's own, and a held part is tested as one given.
 #[test]
 fn roughness_by_words() {
-    let mut cells = [0.0; ROWS];
-    let mut sheet = Sheet::open(&settings(), &mut cells).unwrap();
+    let (mut cells, mut marks) = ([0.0; ROWS], [0; ROWS]);
+    let mut sheet = Sheet::open(&settings(), &mut cells, &mut marks).unwrap();
     sheet.push(&FACE).unwrap();
     sheet.push(&finished(None)).unwrap();
     let (whole, before) = (*sheet.words(), sheet.cells().to_vec());
     let at = FIRST_PART + PART_WORDS + 6;
     let held = |flag: u64, roughness: f64| {
-        let (mut sheet, mut cells) = (whole, before.clone());
+        let (mut sheet, mut cells, mut marks) = (whole, before.clone(), [0; ROWS]);
         sheet[at] = flag;
         sheet[at + 1] = roughness.to_bits();
         let given = sheet;
-        let (status, _) = words::set_column(&mut sheet, 0, 0.0, 0.0, &mut cells);
+        let (status, _) = words::set_column(&mut sheet, 0, 0.0, 0.0, &mut cells, &mut marks);
         if status != 0 {
             assert_eq!((sheet, &cells), (given, &before));
         }
@@ -246,9 +247,13 @@ fn roughness_by_words() {
 #[test]
 fn opens_refused() {
     let number = |settings: &Settings, cell_count: usize| {
-        Sheet::open(settings, &mut vec![0.0; cell_count])
-            .map(|_| ())
-            .map_err(|refusal| refusal.number)
+        Sheet::open(
+            settings,
+            &mut vec![0.0; cell_count],
+            &mut vec![0; cell_count],
+        )
+        .map(|_| ())
+        .map_err(|refusal| refusal.number)
     };
     assert_eq!(number(&settings(), ROWS), Ok(()));
     assert_eq!(number(&settings(), ROWS - 1), Err(10));

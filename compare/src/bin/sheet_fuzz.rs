@@ -95,6 +95,8 @@ struct Counts {
     streams: u64,
     /// By the model's refusal number, 0 accepted.
     by_number: [u64; 20],
+    /// Sheets in which the model marks a cell.
+    marked: u64,
     disagreed: u64,
     shown: Vec<String>,
 }
@@ -114,6 +116,7 @@ fn work(path: &str, count: u64, streams: &Mutex<Streams>, counts: &Mutex<Counts>
         let mut counts = counts.lock().unwrap();
         counts.streams += 1;
         counts.by_number[usize::from(number)] += 1;
+        counts.marked += u64::from(text.contains('+'));
         if !agrees {
             counts.disagreed += 1;
             if counts.shown.len() < SHOWN {
@@ -156,6 +159,7 @@ fn main() -> ExitCode {
     let counts = counts.into_inner().unwrap();
     println!("streams {}", counts.streams);
     println!("accepted {}", counts.by_number[0]);
+    println!("marked {}", counts.marked);
     for (number, count) in counts.by_number.iter().enumerate().skip(1) {
         // 12 to 18 are no refusals of cards.
         if number <= 11 || *count > 0 {

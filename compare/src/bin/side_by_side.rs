@@ -6,15 +6,16 @@
 //! that if given. The first table counts disagreements with the original with the fixed steps (the
 //! sheet and the cards: with their models over it). The second measures the port against the
 //! untouched original, whose ln, powf and sin are the machine's own; it fails nothing. Then it is
-//! told how many parts had a roughness of their own, how many calls left a burning sheet, and how
-//! many finishes the sheets had. The last line says how many disagreements there are in all, and the
-//! exit status is 1 if there are any. The inputs are the same on every run.
+//! told how many parts had a roughness of their own, how many calls left a burning sheet, how many
+//! finishes the sheets had, and how many answers had a mark. The last line says how many
+//! disagreements there are in all, and the exit status is 1 if there are any. The inputs are the same
+//! on every run.
 
 use std::process::ExitCode;
 
 use compare::inputs::Random;
 use compare::side::tally::{
-    print_agreement, print_burning, print_finishes, print_own, print_plain,
+    print_agreement, print_burning, print_finishes, print_marks, print_own, print_plain,
 };
 use compare::side::{cards, curves, formulas, sheets, walks};
 
@@ -49,6 +50,7 @@ fn main() -> ExitCode {
     print_own(&rows);
     print_burning(&rows);
     print_finishes(&rows);
+    print_marks(&rows);
     let disagreements: u64 = rows.iter().map(|row| row.disagreements).sum();
     println!("\n{disagreements} disagreements");
     ExitCode::from(u8::from(disagreements > 0))

@@ -44,6 +44,9 @@ fn print(stream: &[u8], out: &mut [u8], row: &mut Row) {
         let port = String::from_utf8_lossy(&out[..length]);
         format!("{}\nport:\n{port}model:\n{text}", hex(stream))
     });
+    if number == 0 {
+        row.note_mark(text.contains('+'));
+    }
 }
 
 /// Reads a settings card on both sides; where it ends, if it was accepted.

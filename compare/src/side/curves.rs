@@ -30,8 +30,8 @@ fn new(shape: u64, name: &str, count: u64, random: &mut Random) -> [Row; 2] {
     let arguments = [asked::parameter(shape), asked::fineness(), asked::angle()];
     let [a, b, c] = &arguments;
     let mut ask = |_: &mut Random, x: [f64; 3], plausible: bool| {
-        let port = words::curve(shape, x, &[], &mut []);
-        let theirs = mirror::curve(shape, x, &[], &mut []);
+        let port = words::curve(shape, x, &[], &mut [], &mut []);
+        let theirs = mirror::curve(shape, x, &[], &mut [], &mut []);
         let plain = plain::curve(shape, x);
         for (at, row) in rows.iter_mut().enumerate() {
             let agree = port.0 == theirs.0 && port.1[0] == theirs.1[0];
@@ -109,21 +109,30 @@ fn coefficient(shape: u64, name: &str, count: u64, random: &mut Random) -> Row {
     row
 }
 
+/// What stands in a mark before a call.
+const BEFORE: u8 = 7;
+
 fn one(row: &mut Row, shape: u64, arguments: [f64; 3], mach: f64, plausible: bool) {
     let (mut port_out, mut their_out) = ([0], [0]);
-    let port = words::curve(shape, arguments, &[mach], &mut port_out);
-    let theirs = mirror::curve(shape, arguments, &[mach], &mut their_out);
-    row.note(theirs.0, port == theirs && port_out == their_out, || {
+    let (mut port_mark, mut their_mark) = ([BEFORE], [BEFORE]);
+    let port = words::curve(shape, arguments, &[mach], &mut port_out, &mut port_mark);
+    let theirs = mirror::curve(shape, arguments, &[mach], &mut their_out, &mut their_mark);
+    let agree = port == theirs && port_out == their_out && port_mark == their_mark;
+    row.note(theirs.0, agree, || {
         let [p, f, angle] = arguments.map(f64::to_bits);
-        let of = |answer: (u32, [u64; 3]), out: [u64; 1]| {
-            [answer.0.into(), answer.1[0], answer.1[1], out[0]]
+        let of = |answer: (u32, [u64; 3]), out: [u64; 1], mark: [u8; 1]| {
+            let [refused, rest, _] = answer.1;
+            [answer.0.into(), refused, rest, out[0], mark[0].into()]
         };
         written(
             &[shape, p, f, angle, mach.to_bits()],
-            &of(port, port_out),
-            &of(theirs, their_out),
+            &of(port, port_out, port_mark),
+            &of(theirs, their_out, their_mark),
         )
     });
+    if theirs.0 == 0 {
+        row.note_mark(their_mark == [1]);
+    }
     let plain = plain::curve(shape, arguments).and_then(|curve| Ok(curve.coefficient(mach)?));
     row.measure(plausible, port.0, port_out[0], plain);
 }
@@ -139,13 +148,13 @@ fn step(count: u64, random: &mut Random) -> Row {
     row
 }
 
-/// Many Mach numbers for one curve, refused ones among them, shapes that aren't there, and an
-/// output that is as long or shorter, or else longer.
+/// Many Mach numbers for one curve, refused ones among them, shapes that aren't there, and outputs
+/// that are as long or shorter, or else longer.
 fn lists(longer: bool, count: u64, random: &mut Random) -> Row {
     let mut row = Row::new(if longer {
-        "curve, lists of Machs, output longer"
+        "curve, lists of Machs, outputs longer"
     } else {
-        "curve, lists of Machs, output as long or shorter"
+        "curve, lists of Machs, outputs as long or shorter"
     });
     let shapes: Vec<_> = (0..8).map(asked::parameter).collect();
     let (fineness, angle, mach) = (asked::fineness(), asked::angle(), asked::mach());
@@ -163,23 +172,40 @@ fn lists(longer: bool, count: u64, random: &mut Random) -> Row {
                 _ => (mach.plausible)(random),
             })
             .collect();
-        let room = match (longer, random.bits() % 4) {
-            (true, more) => machs.len() + 1 + more as usize,
-            (false, 0) => machs.len().saturating_sub(1),
-            (false, _) => machs.len(),
-        };
-        let (mut port_out, mut their_out) = (vec![7; room], vec![7; room]);
-        let port = words::curve(shape, x, &machs, &mut port_out);
-        let theirs = mirror::curve(shape, x, &machs, &mut their_out);
-        // A refused call leaves the output as it was.
-        let kept = theirs.0 == 0 || port_out.iter().all(|&word| word == 7);
-        let agree = port == theirs && kept && (theirs.0 != 0 || port_out == their_out);
-        row.note(theirs.0, agree, || {
-            let mut arguments = vec![shape];
-            arguments.extend(x.iter().chain(&machs).map(|x| x.to_bits()));
-            let (p, o) = (with_status(&port), with_status(&theirs));
-            format!("room {room}, {}", written(&arguments, &p, &o))
-        });
+        let rooms = [(); 2].map(|()| room(longer, machs.len(), random));
+        listed(&mut row, shape, x, &machs, rooms);
     }
     row
+}
+
+/// How many words or marks an output has.
+fn room(longer: bool, machs: usize, random: &mut Random) -> usize {
+    match (longer, random.bits() % 4) {
+        (true, more) => machs + 1 + more as usize,
+        (false, 0) => machs.saturating_sub(1),
+        (false, _) => machs,
+    }
+}
+
+fn listed(row: &mut Row, shape: u64, x: [f64; 3], machs: &[f64], [room, marks]: [usize; 2]) {
+    let (mut port_out, mut their_out) = (vec![7; room], vec![7; room]);
+    let (mut port_marks, mut their_marks) = (vec![BEFORE; marks], vec![BEFORE; marks]);
+    let port = words::curve(shape, x, machs, &mut port_out, &mut port_marks);
+    let theirs = mirror::curve(shape, x, machs, &mut their_out, &mut their_marks);
+    let same = if theirs.0 == 0 {
+        port_out == their_out && port_marks == their_marks
+    } else {
+        // A refused call leaves the outputs as they were.
+        port_out.iter().all(|&word| word == 7) && port_marks.iter().all(|&mark| mark == BEFORE)
+    };
+    row.note(theirs.0, port == theirs && same, || {
+        let mut arguments = vec![shape];
+        arguments.extend(x.iter().chain(machs).map(|x| x.to_bits()));
+        let (p, o) = (with_status(&port), with_status(&theirs));
+        let input = written(&arguments, &p, &o);
+        format!("room {room} and {marks}, marks {port_marks:?} and {their_marks:?}, {input}")
+    });
+    if theirs.0 == 0 {
+        row.note_mark(their_marks.contains(&1));
+    }
 }

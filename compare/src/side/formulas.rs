@@ -219,37 +219,23 @@ pub fn nose_point(count: u64, random: &mut Random) -> Row {
     row
 }
 
-/// `value_and_slope` and `first_mach`. At NaN the original stops with an index out of range; the
-/// port's answer there is the last value with slope 0 (docs/DIFFERENCES.md).
+/// `value_and_slope`, `first_mach` and the mark. At NaN the original stops with an index out of
+/// range; the port's answer there is the last value with slope 0 (docs/DIFFERENCES.md), and no mark.
 pub fn nose_lookup(count: u64, random: &mut Random) -> Vec<Row> {
     let mach = asked::mach();
     let noses = StoneyNose::ALL.len();
     let mut rows = vec![
         Row::new("StoneyNose lookup: value, first_mach"),
         Row::new("StoneyNose lookup: slope"),
+        Row::new("StoneyNose lookup: mark"),
     ];
     for nose in 0..noses {
-        let number = nose as u32;
         each_input(
             [&mach],
             None,
             count / noses as u64 + 1,
             random,
-            |_, [x], plausible| {
-                let port = words::nose_lookup(number, x);
-                let theirs = expected(number, x);
-                for (at, row) in rows.iter_mut().enumerate() {
-                    let agree = port.0 == theirs.0 && port.1[at] == theirs.1[at];
-                    row.note(theirs.0, agree && port.1[2] == theirs.1[2], || {
-                        written(&[nose as u64, x.to_bits()], &port.1, &theirs.1)
-                    });
-                }
-                if !x.is_nan() {
-                    let (value, slope) = plain::lookup(nose, x);
-                    rows[0].measure(plausible, 0, port.1[0], Ok(value));
-                    rows[1].measure(plausible, 0, port.1[1], Ok(slope));
-                }
-            },
+            |_, [x], plausible| one_lookup(&mut rows, nose, x, plausible),
         );
     }
     for nose in [9, 10, u32::MAX] {
@@ -261,13 +247,31 @@ pub fn nose_lookup(count: u64, random: &mut Random) -> Vec<Row> {
     rows
 }
 
-fn expected(nose: u32, mach: f64) -> (u32, [u64; 3]) {
+fn one_lookup(rows: &mut [Row], nose: usize, x: f64, plausible: bool) {
+    let port = words::nose_lookup(nose as u32, x);
+    let theirs = expected(nose as u32, x);
+    for (row, at) in rows.iter_mut().zip([0, 1, 3]) {
+        let agree = port.0 == theirs.0 && port.1[at] == theirs.1[at];
+        row.note(theirs.0, agree && port.1[2] == theirs.1[2], || {
+            written(&[nose as u64, x.to_bits()], &port.1, &theirs.1)
+        });
+    }
+    rows[2].note_mark(theirs.1[3] == 1);
+    if !x.is_nan() {
+        let (value, slope) = plain::lookup(nose, x);
+        rows[0].measure(plausible, 0, port.1[0], Ok(value));
+        rows[1].measure(plausible, 0, port.1[1], Ok(slope));
+    }
+}
+
+fn expected(nose: u32, mach: f64) -> (u32, [u64; 4]) {
     if !mach.is_nan() {
         return mirror::nose_lookup(nose, mach);
     }
     let points = StoneyNose::ALL[nose as usize].points();
     let last = points[points.len() - 1].1;
-    (0, [last, 0.0, points[0].0].map(answer_bits))
+    let [value, slope, first] = [last, 0.0, points[0].0].map(answer_bits);
+    (0, [value, slope, first, 0])
 }
 
 /// The constants of `NoseShape`, by their parameters; the wrapper has them as constants too.

@@ -26,6 +26,8 @@ pub struct Row {
     burning: [u64; 3],
     /// Accepted calls that left a sheet of one finish, of two, and so on.
     finishes: [u64; FINISHES],
+    /// Accepted calls whose answer has a mark, and those whose has none.
+    marks: [u64; 2],
     pub disagreements: u64,
     shown: Vec<String>,
     plain: Option<Plain>,
@@ -89,6 +91,16 @@ impl Row {
     /// How many accepted calls left a sheet of one finish, of two, and so on.
     pub fn finishes(&self) -> [u64; FINISHES] {
         self.finishes
+    }
+
+    /// Whether an accepted call's answer has a mark.
+    pub fn note_mark(&mut self, marked: bool) {
+        self.marks[usize::from(!marked)] += 1;
+    }
+
+    /// How many answers have a mark, and how many have none.
+    pub fn marks(&self) -> [u64; 2] {
+        self.marks
     }
 
     /// After how many accepted calls a nozzle burns that is narrower than the base, as wide, wider.
@@ -225,6 +237,15 @@ pub fn print_finishes(rows: &[Row]) {
         let [one, two, three, four] = row.finishes();
         let (name, all) = (&row.name, row.seen(0));
         println!("{name}: of {all} accepted {one}, {two}, {three}, {four} with 1 to 4 finishes");
+    }
+}
+
+/// How many accepted answers rested on a table held past its last point.
+pub fn print_marks(rows: &[Row]) {
+    for row in rows.iter().filter(|row| row.marks() != [0; 2]) {
+        let [marked, unmarked] = row.marks();
+        let (name, all) = (&row.name, marked + unmarked);
+        println!("{name}: of {all} accepted {marked} with a mark");
     }
 }
 

@@ -18,12 +18,13 @@ use Rattle.sheet_data.specs.declared.Part.{Part}
 use Rattle.sheet_data.specs.declared.Sheet.{Sheet}
 use Rattle.sheet_data.specs.Contents.{contents_of, blank}
 use Rattle.sheet_data.specs.Tests.{settings_test}
-use Rattle.drag_sheet.specs.Writing.{whole, overwritten}
+use Rattle.drag_sheet.specs.Planes.{Lent, cells_lent}
+use Rattle.drag_sheet.specs.Writing.{whole, rewritten}
 use Rattle.cards.specs.Cards.{part_at, no_settings, settings_at}
 use Rattle.cards.proofs.Extents.{part_extent, settings_extent}
 use Rattle.cards.specs.Fields.{Read}
 use Rattle.card_run.specs.Run.{FirstCard, card_of, Ran, stopped, stopped_at, first_card, all_part_cards, stream_of}
-use Rattle.card_run.proofs.Stream.{ends_of, sheet_then, cells_then, part_reach, cards_end, card_refused, part_accepted, outcome, Turn, ended, carded, turn}
+use Rattle.card_run.proofs.Stream.{ends_of, sheet_then, lent_then, part_reach, cards_end, card_refused, part_accepted, outcome, Turn, ended, carded, turn}
 use Rattle.card_run.proofs.Answers.{first_of_some, stream_unread, stream_opened, stream_passed}
 use Rattle.card_run.proofs.NoCard.{no_bytes}
 
@@ -46,15 +47,15 @@ module _ (t u : List ℕ) where
     part_kept : next ≤ length t → part_at t at ≡ Ok (part, next)
     part_kept l = ap (λ (s : List ℕ). part_at s at) (sym start) ∙ sym (part_extent.kept (t ++ u) (length t) at next (rw p refl) l) ∙ p
 
-    pub inside_part : (sheet : Sheet) (xs : List Float) → at < length t → length t < next → all_part_cards t at sheet xs ≡ stopped (Err (Broken CardEnds)) sheet xs
+    pub inside_part : (sheet : Sheet) (xs : Lent) → at < length t → length t < next → all_part_cards t at sheet xs ≡ stopped (Err (Broken CardEnds)) sheet xs
     inside_part sheet xs h l =
         let c = part_extent.cut (t ++ u) (length t) at next (rw p refl) (omega arith) l in
         card_refused t at sheet xs (Broken CardEnds) h (ap (λ (s : List ℕ). part_at s at) (sym start) ∙ c)
 
   -- one turn of the accepted run, where what follows it is known: t ends before the card, inside it, or past it
-  module _ (at : ℕ) (sheet : Sheet) (xs : List Float) (o : outcome (all_part_cards (t ++ u) at sheet xs) ≡ Ok tt)
-      (again : (part : Part) (next : ℕ) → at + 1 ≤ next → outcome (all_part_cards (t ++ u) next (sheet_then sheet part) (cells_then sheet part xs)) ≡ Ok tt
-      → AtWorstShort (all_part_cards t next (sheet_then sheet part) (cells_then sheet part xs))) where
+  module _ (at : ℕ) (sheet : Sheet) (xs : Lent) (o : outcome (all_part_cards (t ++ u) at sheet xs) ≡ Ok tt)
+      (again : (part : Part) (next : ℕ) → at + 1 ≤ next → outcome (all_part_cards (t ++ u) next (sheet_then sheet part) (lent_then sheet part xs)) ≡ Ok tt
+      → AtWorstShort (all_part_cards t next (sheet_then sheet part) (lent_then sheet part xs))) where
     ends_here : length t ≤ at → AtWorstShort (all_part_cards t at sheet xs)
     ends_here l = accepted (ap outcome (cards_end t at sheet xs l))
 
@@ -70,15 +71,15 @@ module _ (t u : List ℕ) where
             subst AtWorstShort (sym (part_accepted t at sheet xs part next (ltb-true at (length t) e) k d))
             (again part next (part_reach (t ++ u) at part next p).0 (ap outcome (sym (part_accepted (t ++ u) at sheet xs part next h p d)) ∙ o))
 
-  parts_cut : (n at : ℕ) (sheet : Sheet) (xs : List Float) → length (t ++ u) - at ≤ n → outcome (all_part_cards (t ++ u) at sheet xs) ≡ Ok tt
+  parts_cut : (n at : ℕ) (sheet : Sheet) (xs : Lent) → length (t ++ u) - at ≤ n → outcome (all_part_cards (t ++ u) at sheet xs) ≡ Ok tt
       → AtWorstShort (all_part_cards t at sheet xs)
   parts_cut zero at sheet xs h o = let e = length-append t u in accepted (ap outcome (cards_end t at sheet xs (omega (arith, e))))
   parts_cut (suc n) at sheet xs h o =
-      cut_turn at sheet xs o (λ part next k. parts_cut n next (sheet_then sheet part) (cells_then sheet part xs) (omega arith)) (turn (t ++ u) at sheet xs o)
+      cut_turn at sheet xs o (λ part next k. parts_cut n next (sheet_then sheet part) (lent_then sheet part xs) (omega arith)) (turn (t ++ u) at sheet xs o)
 
   -- ---- the settings card, card 0
 
-  module _ (xs : List Float) (some : 0 < length t) where
+  module _ (xs : Lent) (some : 0 < length t) where
     abbrev card : FirstCard
     card = card_of (settings_at (t ++ u) 0)
 
@@ -93,7 +94,7 @@ module _ (t u : List ℕ) where
         first : card ≡ first_card (t ++ u)
         first = let e = length-append t u in ap card_of (sym (first_of_some (t ++ u) (omega (arith, e))))
 
-        passed : (card.outcome ≡ Ok tt) × (settings_test card.settings (length xs) ≡ Ok tt)
+        passed : (card.outcome ≡ Ok tt) × (settings_test card.settings (cells_lent xs) ≡ Ok tt)
         passed = stream_passed (t ++ u) xs card first o
 
         by_end : (b : Bool) → ltb (length t) card.next ≡ b → AtWorstShort (stream_of t xs)
@@ -102,10 +103,10 @@ module _ (t u : List ℕ) where
             let k = settings_extent.kept (t ++ u) (length t) 0 card.next (ends_of (settings_at (t ++ u) 0) passed.0) (ltb-false (length t) card.next e) in
             let same = ap card_of (k ∙ ap (λ (s : List ℕ). settings_at s 0) start ∙ sym (first_of_some t some)) in
             subst AtWorstShort (sym (stream_opened t xs card same passed.0 passed.1))
-            (parts_cut (length (t ++ u)) card.next (blank card.settings) (overwritten whole (contents_of (blank card.settings)) xs) (omega arith)
+            (parts_cut (length (t ++ u)) card.next (blank card.settings) (rewritten whole (contents_of (blank card.settings)) xs) (omega arith)
             (ap outcome (sym (stream_opened (t ++ u) xs card first passed.0 passed.1)) ∙ o))
 
 -- no cut is refused with another number than 4, and the one before the first byte is accepted
-pub cut_anywhere : (t u : List ℕ) (xs : List Float) → outcome (stream_of (t ++ u) xs) ≡ Ok tt → AtWorstShort (stream_of t xs)
+pub cut_anywhere : (t u : List ℕ) (xs : Lent) → outcome (stream_of (t ++ u) xs) ≡ Ok tt → AtWorstShort (stream_of t xs)
 cut_anywhere [] u xs o = accepted (ap outcome (no_bytes xs))
 cut_anywhere (b ∷ t) u xs o = settings_cut (b ∷ t) u xs (omega arith) o

@@ -13,7 +13,8 @@ use Rattle.aero_error.specs.Checks.{dimension, up_to}
 use Rattle.sheet_data.specs.Layout.{needed}
 use Rattle.sheet_data.specs.Contents.{contents_of, blank}
 use Rattle.sheet_data.specs.Tests.{roughnesses_test, columns_test, settings_test}
-use Rattle.drag_sheet.specs.Writing.{whole, overwritten}
+use Rattle.drag_sheet.specs.Planes.{Plane, cell_plane, mark_plane, Lent, cells_lent}
+use Rattle.drag_sheet.specs.Writing.{whole, overwritten, rewritten}
 use Rattle.drag_sheet.specs.Lists.{Matches}
 use Rattle.drag_sheet.proofs.Overwritten.{keeps}
 use Rattle.cards.specs.Fields.{eight_bytes, numbers_at}
@@ -35,20 +36,24 @@ card_05 = 5 ∷ one ++ one
 none_needed : needed 1 0 ≡ 0
 none_needed = omega arith
 
-module _ (xs : List Float) where
+module _ (xs : Lent) where
   -- these settings are accepted, however many cells there are, and nothing is written
   accepted : (cells : ℕ) → settings_test no_card.settings cells ≡ Ok tt
   unfolding settings_test roughnesses_test columns_test between dimension up_to le of_bits
   accepted cells = rw (le-ltb cells (needed 1 0) (omega arith))
 
-  unwritten : overwritten whole (contents_of (blank no_card.settings)) xs ≡ xs
-  unwritten =
+  -- in either plane
+  plane_unwritten : {A : Type 0} (P : Plane A) (ps : List A) → overwritten P whole (contents_of (blank no_card.settings)) ps ≡ ps
+  plane_unwritten P ps =
       let c = contents_of (blank no_card.settings) in
-      subst (λ (n : ℕ). drop n (overwritten whole c xs) ≡ drop n xs) none_needed (keeps c xs (omega arith) whole tt).past
+      subst (λ (n : ℕ). drop n (overwritten P whole c ps) ≡ drop n ps) none_needed (keeps P c ps (omega arith) whole tt).past
+
+  unwritten : rewritten whole (contents_of (blank no_card.settings)) xs ≡ xs
+  unwritten = λ i. record { cells = plane_unwritten cell_plane xs.cells i; marks = plane_unwritten mark_plane xs.marks i }
 
   alone : (s : List ℕ) (card : FirstCard) → card.outcome ≡ Ok tt → card.settings ≡ no_card.settings → length s ≤ card.next
       → stream_from s card xs ≡ stopped_at 1 (Ok tt) (blank no_card.settings) xs
-  alone s card o e h = rw (o, e, accepted (length xs), unwritten) (cards_end s card.next (blank no_card.settings) xs h)
+  alone s card o e h = rw (o, e, accepted (cells_lent xs), unwritten) (cards_end s card.next (blank no_card.settings) xs h)
 
   -- a sheet of these settings with no parts, and the cells as they were
   pub no_bytes : stream_of [] xs ≡ stopped_at 1 (Ok tt) (blank no_card.settings) xs
@@ -59,7 +64,7 @@ module _ (xs : List Float) where
   pub no_bytes_built : Matches (blank no_card.settings) xs (record { settings = no_card.settings; parts = []; nozzle = 0·0 })
   unfolding parts_said
   no_bytes_built =
-      subst (λ (r : Ran). Matches r.run.sheet r.cells (said [])) no_bytes (stream_built [] xs (ap outcome no_bytes))
+      subst (λ (r : Ran). Matches r.run.sheet r.lent (said [])) no_bytes (stream_built [] xs (ap outcome no_bytes))
 
   -- a card that says D = 1 and B = 1 and nothing else, `05`, comes to the same
   pub as_card : stream_of [] xs ≡ stream_of card_05 xs

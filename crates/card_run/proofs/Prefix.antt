@@ -16,12 +16,13 @@ use Rattle.sheet_data.specs.declared.Sheet.{Sheet}
 use Rattle.sheet_data.specs.Layout.{most_parts}
 use Rattle.sheet_data.specs.Contents.{contents_of, blank}
 use Rattle.sheet_data.specs.Tests.{settings_test}
-use Rattle.drag_sheet.specs.Writing.{whole, overwritten}
+use Rattle.drag_sheet.specs.Planes.{Lent, cells_lent}
+use Rattle.drag_sheet.specs.Writing.{whole, rewritten}
 use Rattle.drag_sheet.specs.Calls.{after}
 use Rattle.cards.specs.Cards.{settings_at, settings_bytes, part_bytes}
 use Rattle.cards.proofs.Extents.{part_extent, settings_extent}
 use Rattle.card_run.specs.Run.{FirstCard, card_of, Ran, insert_last, part_cards, on_check, stopped_at, first_card, stream_from, stream_of, stream_bytes}
-use Rattle.card_run.proofs.Stream.{ends_of, sheet_then, cells_then, same_card, card_first, part_reach}
+use Rattle.card_run.proofs.Stream.{ends_of, sheet_then, lent_then, same_card, card_first, part_reach}
 use Rattle.card_run.proofs.Answers.{one_more, accepted_part}
 
 -- the array of a design holds its parts
@@ -57,46 +58,46 @@ module _ (s : List ℕ) where
       by_test false e = let k = ltb-false at (length s) e in sym (le-ltb at (length (take stream_bytes s)) (omega (arith, first_long)))
 
   -- one card more, where n and m are enough for both
-  same_next : (n m at : ℕ) (sheet : Sheet) (xs : List Float) → at + part_bytes ≤ stream_bytes → length s - at ≤ n → length (take stream_bytes s) - at ≤ m
+  same_next : (n m at : ℕ) (sheet : Sheet) (xs : Lent) → at + part_bytes ≤ stream_bytes → length s - at ≤ n → length (take stream_bytes s) - at ≤ m
       → ((part : Part) (next : ℕ) → at < length s → (at + 1 ≤ next) × (next ≤ at + part_bytes) → sheet.design.count < most_parts
-      → part_cards (n - 1) s next (sheet_then sheet part) (cells_then sheet part xs) ≡ part_cards (m - 1) (take stream_bytes s) next (sheet_then sheet part) (cells_then sheet part xs))
+      → part_cards (n - 1) s next (sheet_then sheet part) (lent_then sheet part xs) ≡ part_cards (m - 1) (take stream_bytes s) next (sheet_then sheet part) (lent_then sheet part xs))
       → part_cards n s at sheet xs ≡ part_cards m (take stream_bytes s) at sheet xs
   same_next n m at sheet xs h i j go =
       card_first n s at sheet xs i
       ∙ same_card s (take stream_bytes s) at sheet xs (part_cards (n - 1) s) (part_cards (m - 1) (take stream_bytes s))
       (same_end at (omega arith)) (λ k. part_extent.same s stream_bytes at h)
-      (λ part next k p v. go part next k (part_reach s at part next p) (accepted_part sheet (length xs) part v).room)
+      (λ part next k p v. go part next k (part_reach s at part next p) (accepted_part sheet (cells_lent xs) part v).room)
       ∙ sym (card_first m (take stream_bytes s) at sheet xs j)
 
   -- d parts can still be inserted
-  same_cards : (d n m at : ℕ) (sheet : Sheet) (xs : List Float) → Held sheet → sheet.design.count + d ≡ most_parts → at ≤ settings_bytes + part_bytes * sheet.design.count
+  same_cards : (d n m at : ℕ) (sheet : Sheet) (xs : Lent) → Held sheet → sheet.design.count + d ≡ most_parts → at ≤ settings_bytes + part_bytes * sheet.design.count
       → length s - at ≤ n → length (take stream_bytes s) - at ≤ m → part_cards n s at sheet xs ≡ part_cards m (take stream_bytes s) at sheet xs
   same_cards zero n m at sheet xs g c h i j = same_next n m at sheet xs (omega arith) i j (λ part next k r v. absurd (omega arith))
   same_cards (suc d) n m at sheet xs g c h i j =
       same_next n m at sheet xs (omega arith) i j λ part next k r v.
       let o = one_more_held sheet part g in
-      same_cards d (n - 1) (m - 1) next (sheet_then sheet part) (cells_then sheet part xs) o.1 (omega (arith, o.0)) (omega (arith, o.0)) (omega arith) (omega (arith, first_long))
+      same_cards d (n - 1) (m - 1) next (sheet_then sheet part) (lent_then sheet part xs) o.1 (omega (arith, o.0)) (omega (arith, o.0)) (omega arith) (omega (arith, first_long))
 
   -- the same settings card, and the same part cards after it
-  same_from : (card : FirstCard) (xs : List Float) → (card.outcome ≡ Ok tt → card.next ≤ settings_bytes) → stream_from s card xs ≡ stream_from (take stream_bytes s) card xs
+  same_from : (card : FirstCard) (xs : Lent) → (card.outcome ≡ Ok tt → card.next ≤ settings_bytes) → stream_from s card xs ≡ stream_from (take stream_bytes s) card xs
   same_from card xs h = by_cases card.outcome h
     where
       sheet : Sheet
       sheet = blank card.settings
 
       after : List ℕ → ℕ → Ran
-      after t n = on_check (settings_test card.settings (length xs)) (λ e. stopped_at 0 (Err e) sheet xs) (part_cards n t card.next sheet (overwritten whole (contents_of sheet) xs))
+      after t n = on_check (settings_test card.settings (cells_lent xs)) (λ e. stopped_at 0 (Err e) sheet xs) (part_cards n t card.next sheet (rewritten whole (contents_of sheet) xs))
 
       by_cases : (o : Check) → (o ≡ Ok tt → card.next ≤ settings_bytes)
           → on_check o (λ e. stopped_at 0 (Err e) sheet xs) (after s (length s)) ≡ on_check o (λ e. stopped_at 0 (Err e) sheet xs) (after (take stream_bytes s) (length (take stream_bytes s)))
       by_cases (Ok _) h =
           let k = h refl in
-          ap (λ (r : Ran). on_check (settings_test card.settings (length xs)) (λ e. stopped_at 0 (Err e) sheet xs) r)
-          (same_cards most_parts (length s) (length (take stream_bytes s)) card.next sheet (overwritten whole (contents_of sheet) xs) (omega arith) (omega arith) (omega arith) (omega arith) (omega arith))
+          ap (λ (r : Ran). on_check (settings_test card.settings (cells_lent xs)) (λ e. stopped_at 0 (Err e) sheet xs) r)
+          (same_cards most_parts (length s) (length (take stream_bytes s)) card.next sheet (rewritten whole (contents_of sheet) xs) (omega arith) (omega arith) (omega arith) (omega arith) (omega arith))
       by_cases (Err e) h = refl
 
   -- the answer for any stream is the answer for its first bytes
-  pub first_bytes : (xs : List Float) → stream_of s xs ≡ stream_of (take stream_bytes s) xs
+  pub first_bytes : (xs : Lent) → stream_of s xs ≡ stream_of (take stream_bytes s) xs
   unfolding stream_of
   first_bytes xs =
       same_from (first_card s) xs (first_reach s) ∙ ap (λ (card : FirstCard). stream_from (take stream_bytes s) card xs) (first_same s)

@@ -3,8 +3,9 @@
 // call.
 #![tactic(auto)]
 
-ghost use Rattle.std.specs.Prelude.{◌≡◌, length};
+ghost use Rattle.std.specs.Prelude.{◌≡◌};
 ghost use Rattle.sheet_data.specs.Contents.{Fits};
+ghost use Rattle.drag_sheet.specs.Planes.{lent, cells_lent};
 ghost use Rattle.card_run.specs.Run.{run_stopped, Stopped, all_part_cards, first_read, stream_of};
 
 use aero_error::AeroError;
@@ -27,16 +28,22 @@ pub struct Run {
 }
 
 // The part cards from a position on, each inserted last, up to the first refusal.
-fn run_parts(s: &[u8], start: usize, sheet: &mut Sheet, cells: &mut [f64]) -> Result<(), AeroError>
-    requires { Fits sheet.old (length cells.old) }
-    ensures { Stopped (all_part_cards s.now start sheet.old cells.old) (run_stopped result sheet.new) cells.new }
+fn run_parts(
+    s: &[u8],
+    start: usize,
+    sheet: &mut Sheet,
+    cells: &mut [f64],
+    marks: &mut [u8],
+) -> Result<(), AeroError>
+    requires { Fits sheet.old (cells_lent (lent cells.old marks.old)) }
+    ensures { Stopped (all_part_cards s.now start sheet.old (lent cells.old marks.old)) (run_stopped result sheet.new) (lent cells.new marks.new) }
 {
     let mut at = start;
     // No `for`: where the next card begins is known once this one is read.
     while at < s.len() {
         let (part, next) = cards::read_part(s, at)?;
         let count = sheet.design.count;
-        drag_sheet::insert(sheet, count, part, cells)?;
+        drag_sheet::insert(sheet, count, part, cells, marks)?;
         at = next;
     }
     Ok(())
@@ -60,8 +67,8 @@ fn first_card(s: &[u8]) -> Result<(Settings, usize), AeroError>
 
 // A whole stream: one settings card, then part cards until the bytes end at a card's end, or the
 // first refusal.
-pub fn run_stream(s: &[u8], cells: &mut [f64]) -> Run
-    ensures { Stopped (stream_of s.now cells.old) result cells.new }
+pub fn run_stream(s: &[u8], cells: &mut [f64], marks: &mut [u8]) -> Run
+    ensures { Stopped (stream_of s.now (lent cells.old marks.old)) result (lent cells.new marks.new) }
 {
     let (settings, next) = match first_card(s) {
         Ok(card) => card,
@@ -73,7 +80,7 @@ pub fn run_stream(s: &[u8], cells: &mut [f64]) -> Run
             };
         }
     };
-    let (mut sheet, opened) = drag_sheet::open(settings, cells);
+    let (mut sheet, opened) = drag_sheet::open(settings, cells, marks);
     if let Err(e) = opened {
         return Run {
             outcome: Err(e),
@@ -81,7 +88,7 @@ pub fn run_stream(s: &[u8], cells: &mut [f64]) -> Run
             sheet,
         };
     }
-    let outcome = run_parts(s, next, &mut sheet, cells);
+    let outcome = run_parts(s, next, &mut sheet, cells, marks);
     let card = sheet.design.count + 1;
     Run {
         outcome,

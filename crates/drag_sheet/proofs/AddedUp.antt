@@ -24,7 +24,7 @@ use Rattle.sheet_data.specs.Contents.{Contents, part_at, roughness_at, mach_at, 
 use Rattle.sheet_data.specs.Tables.{tab, tab_long, tab_at, tab_same}
 use Rattle.drag_sheet.specs.Formulas.{value_of, roughness_of, formed_friction, sum_to, friction_cell}
 use Rattle.drag_sheet.specs.Body.{friction_row_cells, any_own, flow_at, Flows, formed, formed_for}
-use Rattle.drag_sheet.proofs.Sums.{sum_same}
+use Rattle.drag_sheet.specs.Formulas.{sum_same}
 
 -- a part with a roughness of its own is seen
 seen : (ps : List Part) (i : ℕ) → i < length ps → is_some (part_at ps i).roughness ≡ true → any_own ps ≡ true

@@ -4,6 +4,7 @@ use Rattle.aero_error.specs.Checks.{unless, Check}
 use mathlib.Core.Path.{◌≡◌, refl, ap, ◌∙◌}
 use mathlib.Core.List.{List}
 use Prim.Native.Nat.{ℕ, ◌≤◌, ◌<◌}
+use native.Mathlib.Omega.{arith}
 use lib.ListN.{length, drop}
 use lib.Seq.{take_at}
 use lib.Dec.{ltb, leb}
@@ -20,8 +21,9 @@ use Rattle.sheet_data.specs.Contents.{Contents, contents_of, blank, Fits}
 use Rattle.sheet_data.proofs.Held.{held_finishes, held_cells}
 use Rattle.sheet_data.specs.Tests.{body_test, settings_test, nozzle_test, part_test, sheet_test}
 use Rattle.drag_sheet.specs.Calls.{Answer, Call, replace, insert, remove, set_column, ignite, burnout, applied, arguments_test, tries, scope, after, call_test, sheet_with, left_by, answered, Called, Opened}
+use Rattle.drag_sheet.specs.Planes.{cell_plane, mark_plane, Lent, cells_lent}
 use Rattle.drag_sheet.specs.Build.{trial}
-use Rattle.drag_sheet.specs.Writing.{chosen, whole, overwritten, AllWritten}
+use Rattle.drag_sheet.specs.Writing.{chosen, Scope, whole, overwritten, rewritten, AllWritten}
 
 -- ---- what passed tests show
 
@@ -101,10 +103,25 @@ fits_left call {sheet} f e few =
     let C = ap (λ (s : Sheet). s.settings.count) e ∙ same.columns in
     record { finishes = rw F f.fits.finishes; columns = rw C f.fits.columns; parts = few; room = rw (F, C) f.fits.room }
 
+-- ---- the two planes
+
+-- a sheet that fits what is lent fits either buffer
+pub fits_cells : {sheet : Sheet} (xs : Lent) → Fits sheet (cells_lent xs) → Fits sheet (length xs.cells)
+fits_cells xs f = record { finishes = f.finishes; columns = f.columns; parts = f.parts; room = omega (arith, f.room) }
+
+pub fits_marks : {sheet : Sheet} (xs : Lent) → Fits sheet (cells_lent xs) → Fits sheet (length xs.marks)
+fits_marks xs f = record { finishes = f.finishes; columns = f.columns; parts = f.parts; room = omega (arith, f.room) }
+
+-- both buffers as a test leaves them
+pub both_chosen : (d : Check) (xs ys : Lent) (scope : Scope) (c : Contents) → ys.cells ≡ chosen d xs.cells (overwritten cell_plane scope c xs.cells) → ys.marks ≡ chosen d xs.marks (overwritten mark_plane scope c xs.marks)
+    → ys ≡ chosen d xs (rewritten scope c xs)
+both_chosen (Ok _) xs ys scope c f g = λ i. record { cells = f i; marks = g i }
+both_chosen (Err e) xs ys scope c f g = λ i. record { cells = f i; marks = g i }
+
 -- ---- the contract
 
-pub called : (call : Call) (sheet : Sheet) (xs : List Float) (r : Answer) (ys : List Float) (test : Check) (new : Sheet) → call_test call sheet (length xs) ≡ Ok tt → test ≡ tries call (after call sheet)
-    → new ≡ sheet_with (after call sheet) sheet → r ≡ answered test sheet new → ys ≡ chosen test xs (overwritten (scope call (after call sheet)) (after call sheet) xs) → Called call sheet xs r ys
+pub called : (call : Call) (sheet : Sheet) (xs : Lent) (r : Answer) (ys : Lent) (test : Check) (new : Sheet) → call_test call sheet (cells_lent xs) ≡ Ok tt → test ≡ tries call (after call sheet)
+    → new ≡ sheet_with (after call sheet) sheet → r ≡ answered test sheet new → ys ≡ chosen test xs (rewritten (scope call (after call sheet)) (after call sheet) xs) → Called call sheet xs r ys
 called call sheet xs r ys test new p t n a l = record { answer = a ∙ rw (n, p, t); left = l ∙ rw (p, t) }
 
 -- the sheet that is left has the contents that are left
@@ -112,13 +129,14 @@ pub contents_with : (c : Contents) (sheet : Sheet) → contents_of (sheet_with c
 contents_with c sheet = ap (λ ps. record { settings = c.settings; parts = ps; nozzle = c.nozzle }) (take_at c.parts (drop (length c.parts) sheet.design.parts) (length c.parts) refl)
 
 -- all rows written, or the refusal of one handed on
-module _ (call : Call) (sheet left : Sheet) (xs : List Float) (r : Check) (ys : List Float) (p : call_test call sheet (length xs) ≡ Ok tt) (n : left ≡ sheet_with (after call sheet) sheet)
-    (t : trial (after call sheet) ≡ tries call (after call sheet)) (w : scope call (after call sheet) ≡ whole) (f : AllWritten (contents_of left) xs r ys) where
+module _ (call : Call) (sheet left : Sheet) (xs : Lent) (r : Check) (ys : Lent) (p : call_test call sheet (cells_lent xs) ≡ Ok tt) (n : left ≡ sheet_with (after call sheet) sheet)
+    (t : trial (after call sheet) ≡ tries call (after call sheet)) (w : scope call (after call sheet) ≡ whole)
+    (f : AllWritten cell_plane (contents_of left) xs.cells r ys.cells) (g : AllWritten mark_plane (contents_of left) xs.marks r ys.marks) where
   same_contents : contents_of left ≡ after call sheet
   same_contents = ap contents_of n ∙ contents_with (after call sheet) sheet
 
   whole_called : (a : Answer) → a ≡ answered r sheet left → Called call sheet xs a ys
-  whole_called a e = called call sheet xs a ys r left p (f.verdict ∙ rw same_contents t) n e (f.left ∙ rw (f.verdict, same_contents, w))
+  whole_called a e = called call sheet xs a ys r left p (f.verdict ∙ rw same_contents t) n e (both_chosen _ xs ys _ _ f.left g.left ∙ rw (f.verdict, same_contents, w))
 
   pub whole_refused : (s : Check) (e : AeroError) → r ≡ Err e → s ≡ Err e → Called call sheet xs (record { outcome = s; sheet = sheet }) ys
   whole_refused s e h k = whole_called _ (rw (h, k))
@@ -131,5 +149,6 @@ pub blank_tried : (s : Settings) → trial (contents_of (blank s)) ≡ Ok tt
 unfolding trial
 blank_tried s = up_none _
 
-pub opened_whole : (s : Settings) (xs : List Float) (r : Check) (ys : List Float) → settings_test s (length xs) ≡ Ok tt → AllWritten (contents_of (blank s)) xs r ys → Opened s xs (record { outcome = r; sheet = blank s }) ys
-opened_whole s xs r ys p f = record { answer = rw (f.verdict, blank_tried s, p); left = f.left ∙ rw (blank_tried s, p) }
+pub opened_whole : (s : Settings) (xs : Lent) (r : Check) (ys : Lent) → settings_test s (cells_lent xs) ≡ Ok tt → AllWritten cell_plane (contents_of (blank s)) xs.cells r ys.cells → AllWritten mark_plane (contents_of (blank s)) xs.marks r ys.marks
+    → Opened s xs (record { outcome = r; sheet = blank s }) ys
+opened_whole s xs r ys p f g = record { answer = rw (f.verdict, blank_tried s, p); left = both_chosen _ xs ys _ _ f.left g.left ∙ rw (blank_tried s, p) }

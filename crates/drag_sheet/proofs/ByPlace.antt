@@ -14,7 +14,8 @@ use Rattle.sheet_data.specs.declared.Settings.{Settings}
 use Rattle.sheet_data.specs.declared.Part.{Part}
 use Rattle.sheet_data.specs.Contents.{no_part, part_at, roughness_at}
 use Rattle.drag_sheet.specs.Formulas.{roughness_of, part_friction, friction_cell}
-use Rattle.drag_sheet.proofs.Sums.{sum_none, sum_more, sum_same}
+use Rattle.drag_sheet.proofs.Sums.{sum_none, sum_more}
+use Rattle.drag_sheet.specs.Formulas.{sum_same}
 
 module _ (s : Settings) (j : ℕ) (n M R : Float) where
   pub no_parts : friction_cell (record { settings = s; parts = []; nozzle = n }) j M R ≡ 0·0

@@ -1,4 +1,4 @@
--- Any call on any sheet and cells: accepted, with what it leaves, or refused, with what was given. Nothing past the rows is written, replacing a part writes no row
+-- Any call on any sheet, cells and marks: accepted, with what it leaves, or refused, with what was given. Nothing past the rows is written, replacing a part writes no row
 -- but its own, the next part's where there is one, friction, base and total, and ignite and burnout none but base and total.
 use Rattle.std.specs.Prelude.{Ok, Err}
 use Rattle.aero_error.specs.Checks.{Check}
@@ -19,29 +19,30 @@ use Rattle.sheet_data.specs.Layout.{most_parts, friction_row, base_row, total_ro
 use Rattle.sheet_data.specs.Contents.{Contents, contents_of, parts_of}
 use Rattle.sheet_data.specs.Rows.{Unnamed, row_at}
 use Rattle.drag_sheet.specs.Calls.{Answer, Call, replace, insert, remove, set_column, ignite, burnout, applied, nozzle_rows, scope, tries, after, call_test, decision, sheet_with, Called}
-use Rattle.drag_sheet.specs.Writing.{Scope, rows, overwritten}
-use Rattle.drag_sheet.specs.Lists.{Arrays}
+use Rattle.drag_sheet.specs.Planes.{Plane, cell_plane, mark_plane, Lent, cells_lent}
+use Rattle.drag_sheet.specs.Writing.{Scope, rows, overwritten, rewritten}
+use Rattle.drag_sheet.specs.Lists.{Arrays, PastRows}
 use Rattle.drag_sheet.proofs.Verdicts.{never}
 use Rattle.drag_sheet.proofs.Slots.{inserted_long, removed_long}
 use Rattle.drag_sheet.proofs.Overwritten.{Inside, Keeps, keeps, other_rows}
-use Rattle.drag_sheet.proofs.Answers.{Facts, call_facts, Bounds, SameLayout, same_layout}
+use Rattle.drag_sheet.proofs.Answers.{fits_cells, fits_marks, Facts, call_facts, Bounds, SameLayout, same_layout}
 use Rattle.drag_sheet.proofs.Duties.{scope_inside, body_not_part}
 
--- accepted, with the cells that the call leaves; or refused, with the sheet and the cells that were given
-pub data Ended (call : Call) (sheet : Sheet) (xs : List Float) (r : Answer) (ys : List Float) : Type 0 where
-  accepted : decision call sheet (length xs) ≡ Ok tt → r ≡ record { outcome = Ok tt; sheet = sheet_with (after call sheet) sheet } → ys ≡ overwritten (scope call (after call sheet)) (after call sheet) xs
+-- accepted, with the buffers as the call leaves them; or refused, with the sheet and the buffers that were given
+pub data Ended (call : Call) (sheet : Sheet) (xs : Lent) (r : Answer) (ys : Lent) : Type 0 where
+  accepted : decision call sheet (cells_lent xs) ≡ Ok tt → r ≡ record { outcome = Ok tt; sheet = sheet_with (after call sheet) sheet } → ys ≡ rewritten (scope call (after call sheet)) (after call sheet) xs
       → Ended call sheet xs r ys
-  refusal : (e : AeroError) → decision call sheet (length xs) ≡ Err e → r ≡ record { outcome = Err e; sheet = sheet } → ys ≡ xs → Ended call sheet xs r ys
+  refusal : (e : AeroError) → decision call sheet (cells_lent xs) ≡ Err e → r ≡ record { outcome = Err e; sheet = sheet } → ys ≡ xs → Ended call sheet xs r ys
 
-pub ended : (call : Call) (sheet : Sheet) (xs : List Float) (r : Answer) (ys : List Float) → Called call sheet xs r ys → Ended call sheet xs r ys
-ended call sheet xs r ys c = by (decision call sheet (length xs)) refl
+pub ended : (call : Call) (sheet : Sheet) (xs : Lent) (r : Answer) (ys : Lent) → Called call sheet xs r ys → Ended call sheet xs r ys
+ended call sheet xs r ys c = by (decision call sheet (cells_lent xs)) refl
   where
-    by : (d : Check) → decision call sheet (length xs) ≡ d → Ended call sheet xs r ys
+    by : (d : Check) → decision call sheet (cells_lent xs) ≡ d → Ended call sheet xs r ys
     by (Ok _) p = accepted p (c.answer ∙ rw p) (c.left ∙ rw p)
     by (Err e) p = refusal e p (c.answer ∙ rw p) (c.left ∙ rw p)
 
--- "a refused edit hands back the design and every lent cell unaltered"
-pub refused_unaltered : (call : Call) (sheet : Sheet) (xs : List Float) (r : Answer) (ys : List Float) (e : AeroError) → Called call sheet xs r ys → r.outcome ≡ Err e → (r.sheet ≡ sheet) × (ys ≡ xs)
+-- "a refused edit hands back the design and every lent cell unaltered"; "and a refusal alters none" of the marks
+pub refused_unaltered : (call : Call) (sheet : Sheet) (xs : Lent) (r : Answer) (ys : Lent) (e : AeroError) → Called call sheet xs r ys → r.outcome ≡ Err e → (r.sheet ≡ sheet) × (ys ≡ xs)
 refused_unaltered call sheet xs r ys e c o = by (ended call sheet xs r ys c)
   where
     by : Ended call sheet xs r ys → (r.sheet ≡ sheet) × (ys ≡ xs)
@@ -59,17 +60,17 @@ parts_few burnout c b few = few
 
 -- ---- what an accepted call has shown
 
-pub record Accepted (call : Call) (sheet : Sheet) (xs : List Float) : Type 0 where
-  pub facts : Facts call sheet (length xs)
+pub record Accepted (call : Call) (sheet : Sheet) (xs : Lent) : Type 0 where
+  pub facts : Facts call sheet (cells_lent xs)
   pub tried : tries call (after call sheet) ≡ Ok tt
   pub long : length (parts_of sheet.design) ≡ sheet.design.count
   pub within : Bounds call sheet.settings (length (parts_of sheet.design))
   pub few : length (parts_of sheet.design) ≤ most_parts
 
-pub shown : (call : Call) (sheet : Sheet) (xs : List Float) → length sheet.design.parts ≡ most_parts → decision call sheet (length xs) ≡ Ok tt → Accepted call sheet xs
+pub shown : (call : Call) (sheet : Sheet) (xs : Lent) → length sheet.design.parts ≡ most_parts → decision call sheet (cells_lent xs) ≡ Ok tt → Accepted call sheet xs
 shown call sheet xs slots p =
-    let b = both_passed (call_test call sheet (length xs)) (tries call (after call sheet)) p in
-    let f = call_facts call sheet (length xs) b.first in
+    let b = both_passed (call_test call sheet (cells_lent xs)) (tries call (after call sheet)) p in
+    let f = call_facts call sheet (cells_lent xs) b.first in
     let n : length (parts_of sheet.design) ≡ sheet.design.count = length-take-le sheet.design.count sheet.design.parts (omega (arith, f.fits.parts)) in
     record {
       facts = f;
@@ -79,17 +80,17 @@ shown call sheet xs slots p =
       few = omega (arith, f.fits.parts);
     }
 
--- an accepted call keeps the number of columns, the number of cells, and what lies past the rows
-pub record Left (call : Call) (sheet : Sheet) (xs : List Float) : Type 0 where
-  pub layout : SameLayout (contents_of sheet) (after call sheet)
-  pub cells : Keeps sheet.settings.finishes sheet.settings.count xs (overwritten (scope call (after call sheet)) (after call sheet) xs)
+-- an accepted call keeps the number of columns, and of a plane the number of cells and what lies past the rows
+pub left_layout : (call : Call) (sheet : Sheet) → SameLayout (contents_of sheet) (after call sheet)
+left_layout call sheet = same_layout call (contents_of sheet)
 
-pub left : (call : Call) (sheet : Sheet) (xs : List Float) → Accepted call sheet xs → Left call sheet xs
-left call sheet xs a =
-    let w = same_layout call (contents_of sheet) in
+pub left : {A : Type 0} (P : Plane A) (call : Call) (sheet : Sheet) (xs : Lent) (ps : List A) → Accepted call sheet xs → needed sheet.settings.finishes sheet.settings.count ≤ length ps
+    → Keeps sheet.settings.finishes sheet.settings.count ps (overwritten P (scope call (after call sheet)) (after call sheet) ps)
+left P call sheet xs ps a room =
+    let w = left_layout call sheet in
     let new = after call sheet in
-    let k = keeps new xs (rw (w.finishes, w.columns) a.facts.fits.room) (scope call new) (rw (w.finishes, w.columns) (scope_inside call (contents_of sheet) a.within a.few)) in
-    record { layout = w; cells = rw (w.finishes, w.columns) at k }
+    let k = keeps P new ps (rw (w.finishes, w.columns) room) (scope call new) (rw (w.finishes, w.columns) (scope_inside call (contents_of sheet) a.within a.few)) in
+    rw (w.finishes, w.columns) at k
 
 -- a row of F finishes that is none of the friction, base and total rows
 pub record NotBody (F row : ℕ) : Type 0 where
@@ -107,33 +108,52 @@ not_body F row h n =
     (λ q. absurd (n.base q))
     (λ q. absurd (n.total (row - total_row F 0) (omega arith) (omega arith)))))
 
-module _ (sheet : Sheet) (arrays : Arrays sheet) (xs : List Float) (r : Answer) (ys : List Float) where
-  -- "Cells past 19 × C are never written"; of F finishes these are the cells past (17 + 2 × F) × C
-  pub past_kept : (call : Call) → Called call sheet xs r ys → drop (needed sheet.settings.finishes sheet.settings.count) ys ≡ drop (needed sheet.settings.finishes sheet.settings.count) xs
+-- a row that a plane has before (xs) and after (ys)
+abbrev pub RowKept : {A : Type 0} → Sheet → ℕ → List A → List A → Type 0
+RowKept sheet row xs ys = row_at sheet.settings.count ys row ≡ row_at sheet.settings.count xs row
+
+module _ (sheet : Sheet) (arrays : Arrays sheet) (xs : Lent) (r : Answer) (ys : Lent) where
+  -- room in either plane
+  cells_room : {call : Call} → Accepted call sheet xs → needed sheet.settings.finishes sheet.settings.count ≤ length xs.cells
+  cells_room a = (fits_cells xs a.facts.fits).room
+
+  marks_room : {call : Call} → Accepted call sheet xs → needed sheet.settings.finishes sheet.settings.count ≤ length xs.marks
+  marks_room a = (fits_marks xs a.facts.fits).room
+
+  -- "Cells past 19 × C are never written"; of F finishes these are the cells past (17 + 2 × F) × C, and the marks past as many
+  pub past_kept : (call : Call) → Called call sheet xs r ys → PastRows sheet.settings xs ys
   past_kept call c = by (ended call sheet xs r ys c)
     where
-      by : Ended call sheet xs r ys → drop (needed sheet.settings.finishes sheet.settings.count) ys ≡ drop (needed sheet.settings.finishes sheet.settings.count) xs
-      by (refusal e p a l) = rw l
-      by (accepted p a l) = rw l (left call sheet xs (shown call sheet xs arrays.slots p)).cells.past
+      by : Ended call sheet xs r ys → PastRows sheet.settings xs ys
+      by (refusal e p a l) = rw l record { cells = refl; marks = refl }
+      by (accepted p a l) =
+          let s = shown call sheet xs arrays.slots p in
+          rw l record { cells = (left cell_plane call sheet xs xs.cells s (cells_room s)).past; marks = (left mark_plane call sheet xs xs.marks s (marks_room s)).past }
 
   -- of a call that writes rows and then the totals, a row that it doesn't name stays
+  plane_kept : {A : Type 0} (P : Plane A) (ps : List A) (call : Call) (named : List ℕ) → scope call (after call sheet) ≡ rows named → Accepted call sheet xs
+      → needed sheet.settings.finishes sheet.settings.count ≤ length ps → (row : ℕ) → row < total_row sheet.settings.finishes 0 → Unnamed named row
+      → RowKept sheet row ps (overwritten P (scope call (after call sheet)) (after call sheet) ps)
+  plane_kept P ps call named e s room row h u =
+      let new = after call sheet in
+      let w = left_layout call sheet in
+      let below = subst (λ (z : Scope). Inside z sheet.settings.finishes sheet.settings.count) e (scope_inside call (contents_of sheet) s.within s.few) in
+      rw e (subst (λ n. row_at n (overwritten P (rows named) new ps) row ≡ row_at n ps row) w.columns
+      (other_rows P new ps (rw (w.finishes, w.columns) room) named (rw w.finishes below) row (rw w.finishes h) u))
+
   unnamed_kept : (call : Call) (named : List ℕ) → scope call (after call sheet) ≡ rows named → Called call sheet xs r ys → (row : ℕ) → row < total_row sheet.settings.finishes 0 → Unnamed named row
-      → row_at sheet.settings.count ys row ≡ row_at sheet.settings.count xs row
+      → RowKept sheet row xs.cells ys.cells × RowKept sheet row xs.marks ys.marks
   unnamed_kept call named e c row h u = by (ended call sheet xs r ys c)
     where
-      by : Ended call sheet xs r ys → row_at sheet.settings.count ys row ≡ row_at sheet.settings.count xs row
-      by (refusal x q a l) = rw l
+      by : Ended call sheet xs r ys → RowKept sheet row xs.cells ys.cells × RowKept sheet row xs.marks ys.marks
+      by (refusal x q a l) = rw l (refl, refl)
       by (accepted q a l) =
           let s = shown call sheet xs arrays.slots q in
-          let new = after call sheet in
-          let w = same_layout call (contents_of sheet) in
-          let below = subst (λ (z : Scope). Inside z sheet.settings.finishes sheet.settings.count) e (scope_inside call (contents_of sheet) s.within s.few) in
-          rw (l, e) (subst (λ n. row_at n (overwritten (rows named) new xs) row ≡ row_at n xs row) w.columns
-          (other_rows new xs (rw (w.finishes, w.columns) s.facts.fits.room) named (rw w.finishes below) row (rw w.finishes h) u))
+          rw l (plane_kept cell_plane xs.cells call named e s (cells_room s) row h u, plane_kept mark_plane xs.marks call named e s (marks_room s) row h u)
 
   -- "Replacing a part changes no cells but its own row, the next part's, and the friction, base and total rows": with no part after it the row there stays too
   pub other_rows_kept : (place : ℕ) (p : Part) → Called (replace place p) sheet xs r ys → (row : ℕ) → row < all_rows sheet.settings.finishes → NotBody sheet.settings.finishes row → row ≢ place → (row ≡ place + 1 → sheet.design.count ≤ place + 1)
-      → row_at sheet.settings.count ys row ≡ row_at sheet.settings.count xs row
+      → RowKept sheet row xs.cells ys.cells × RowKept sheet row xs.marks ys.marks
   other_rows_kept place p c row h part i j =
       let few = not_body sheet.settings.finishes row h part in
       let none : row ≡ place + 1 → length (set (parts_of sheet.design) place p) ≤ place + 1 = λ e. omega (arith, j e, length-set (parts_of sheet.design) place p, taken_few) in
@@ -143,8 +163,8 @@ module _ (sheet : Sheet) (arrays : Arrays sheet) (xs : List Float) (r : Answer) 
       taken_few = rw (length-take sheet.design.count sheet.design.parts) (omega arith)
 
   -- ignite and burnout "write the base and total rows": no part row and no friction row is changed
-  pub ignite_rows_kept : (n : Float) → Called (ignite n) sheet xs r ys → (row : ℕ) → row < base_row sheet.settings.finishes → row_at sheet.settings.count ys row ≡ row_at sheet.settings.count xs row
+  pub ignite_rows_kept : (n : Float) → Called (ignite n) sheet xs r ys → (row : ℕ) → row < base_row sheet.settings.finishes → RowKept sheet row xs.cells ys.cells × RowKept sheet row xs.marks ys.marks
   ignite_rows_kept n c row h = unnamed_kept (ignite n) (nozzle_rows sheet.settings.finishes) refl c row (omega arith) ((λ e. omega arith), tt)
 
-  pub burnout_rows_kept : Called burnout sheet xs r ys → (row : ℕ) → row < base_row sheet.settings.finishes → row_at sheet.settings.count ys row ≡ row_at sheet.settings.count xs row
+  pub burnout_rows_kept : Called burnout sheet xs r ys → (row : ℕ) → row < base_row sheet.settings.finishes → RowKept sheet row xs.cells ys.cells × RowKept sheet row xs.marks ys.marks
   burnout_rows_kept c row h = unnamed_kept burnout (nozzle_rows sheet.settings.finishes) refl c row (omega arith) ((λ e. omega arith), tt)

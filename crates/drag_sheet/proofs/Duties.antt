@@ -21,6 +21,7 @@ use Rattle.sheet_data.specs.Tables.{tab_same}
 use Rattle.sheet_data.specs.Rows.{from, Unnamed, Below}
 use Rattle.sheet_data.specs.RowLaws.{before_all, below_append, unnamed_append}
 use Rattle.drag_sheet.specs.Formulas.{cell_from, ready_test, made_test, friction_cell, base_cell}
+use Rattle.drag_sheet.specs.Planes.{Plane}
 use Rattle.drag_sheet.specs.Build.{Kind, part, friction, base, total, kind_at, prepared_at, part_cell, kind_cell, row_test, trial, cell_at, row_of}
 use Rattle.drag_sheet.specs.Writing.{rows, overwritten}
 use Rattle.drag_sheet.specs.Calls.{Call, replace, insert, remove, set_column, ignite, burnout, with_nozzle, applied, tries, column_trial, replaced_rows, nozzle_rows, body_rows, scope}
@@ -67,9 +68,9 @@ module _ (c : Contents) (place : ℕ) (p : Part) (inside : place < length c.part
       (λ l. let v : Unnamed ((place + 1) ∷ place ∷ []) r = rw (lt-ltb (place + 1) (length c.parts) l) at u in (v.1.0, v.0))
       (λ l. let v : Unnamed (place ∷ []) r = rw (le-ltb (place + 1) (length c.parts) (omega arith)) at u in (v.0, λ e. omega arith))
 
-  same_row : (r : ℕ) → r < total_row c.settings.finishes 0 → Unnamed (body_rows c.settings.finishes ++ replaced_rows place (length c.parts)) r → row_of c r ≡ row_of new r
+  same_row : {A : Type 0} (P : Plane A) (r : ℕ) → r < total_row c.settings.finishes 0 → Unnamed (body_rows c.settings.finishes ++ replaced_rows place (length c.parts)) r → row_of P c r ≡ row_of P new r
   unfolding kind_cell part_cell
-  same_row r h u =
+  same_row P r h u =
       let v = unnamed_append (body_rows c.settings.finishes) (replaced_rows place (length c.parts)) r u in
       let few = body_outside c.settings.finishes r h v.0 in
       tab_same c.settings.count _ _ (λ k m. rw (kind_part c.settings.finishes r few, length-set c.parts place p)
@@ -102,15 +103,15 @@ module _ (c : Contents) (k : ℕ) (M R : Float) where
   abbrev put : Contents
   put = applied (set_column k M R) c
 
-  other_kind : (kind : Kind) (N S : Float) → kind_cell c kind N S ≡ kind_cell put kind N S
+  other_kind : {A : Type 0} (P : Plane A) (kind : Kind) (N S : Float) → kind_cell P c kind N S ≡ kind_cell P put kind N S
   unfolding kind_cell part_cell friction_cell base_cell
-  other_kind (part i) N S = refl
-  other_kind (friction j) N S = refl
-  other_kind base N S = refl
-  other_kind (total j) N S = refl
+  other_kind P (part i) N S = refl
+  other_kind P (friction j) N S = refl
+  other_kind P base N S = refl
+  other_kind P (total j) N S = refl
 
-  other_column : (r i : ℕ) → i ≢ k → cell_at c r i ≡ cell_at put r i
-  other_column r i u = rw (same_mach c.settings k M R i u, same_reynolds c.settings k M R i u) (other_kind (kind_at c.settings.finishes r) (mach_at c.settings i) (reynolds_at c.settings i))
+  other_column : {A : Type 0} (P : Plane A) (r i : ℕ) → i ≢ k → cell_at P c r i ≡ cell_at P put r i
+  other_column P r i u = rw (same_mach c.settings k M R i u, same_reynolds c.settings k M R i u) (other_kind P (kind_at c.settings.finishes r) (mach_at c.settings i) (reynolds_at c.settings i))
 
   column_tries : k < c.settings.count → trial c ≡ Ok tt → tries (set_column k M R) put ≡ trial put
   unfolding tries trial row_test column_trial
@@ -128,8 +129,8 @@ module _ (n : Float) (c : Contents) where
   nozzle_tries : trial c ≡ Ok tt → Ok tt ≡ trial (with_nozzle n c)
   nozzle_tries ok = sym (same_trial n c ∙ ok)
 
-  nozzle_holds : (xs : List Float) → Holds c xs → Holds (with_nozzle n c) (overwritten (rows (nozzle_rows c.settings.finishes)) (with_nozzle n c) xs)
-  nozzle_holds xs h = rows_hold (with_nozzle n c) xs h.room (nozzle_rows c.settings.finishes) (nozzle_below c.settings.finishes) (λ r l u. let k : r ≢ base_row c.settings.finishes = u.0 in h.rows r (omega arith) ∙ sym (above_base n c r (omega arith)))
+  nozzle_holds : {A : Type 0} (P : Plane A) (xs : List A) → Holds P c xs → Holds P (with_nozzle n c) (overwritten P (rows (nozzle_rows c.settings.finishes)) (with_nozzle n c) xs)
+  nozzle_holds P xs h = rows_hold P (with_nozzle n c) xs h.room (nozzle_rows c.settings.finishes) (nozzle_below c.settings.finishes) (λ r l u. let k : r ≢ base_row c.settings.finishes = u.0 in h.rows r (omega arith) ∙ sym (above_base n c P r (omega arith)))
 
 -- ---- every call
 
@@ -151,14 +152,14 @@ scope_inside (set_column k M R) c b few = b
 scope_inside (ignite n) c b few = nozzle_below c.settings.finishes
 scope_inside burnout c b few = nozzle_below c.settings.finishes
 
--- THE LAW over calls
-pub call_holds : (call : Call) (c : Contents) (xs : List Float) → Bounds call c.settings (length c.parts) → length c.parts ≤ most_parts → Holds c xs
-    → Holds (applied call c) (overwritten (scope call (applied call c)) (applied call c) xs)
-call_holds (replace place p) c xs b few h =
+-- THE LAW over calls, for either plane
+pub call_holds : {A : Type 0} (P : Plane A) (call : Call) (c : Contents) (xs : List A) → Bounds call c.settings (length c.parts) → length c.parts ≤ most_parts → Holds P c xs
+    → Holds P (applied call c) (overwritten P (scope call (applied call c)) (applied call c) xs)
+call_holds P (replace place p) c xs b few h =
     rw (length-set c.parts place p)
-    (rows_hold (applied (replace place p) c) xs h.room _ (replace_below c place p b few) (λ r l u. h.rows r (omega arith) ∙ same_row c place p b r l u))
-call_holds (insert place p) c xs b few h = whole_holds (applied (insert place p) c) xs h.room
-call_holds (remove place) c xs b few h = whole_holds (applied (remove place) c) xs h.room
-call_holds (set_column k M R) c xs b few h = column_holds (applied (set_column k M R) c) xs h.room k c refl refl h (other_column c k M R)
-call_holds (ignite n) c xs b few h = nozzle_holds n c xs h
-call_holds burnout c xs b few h = nozzle_holds _ c xs h
+    (rows_hold P (applied (replace place p) c) xs h.room _ (replace_below c place p b few) (λ r l u. h.rows r (omega arith) ∙ same_row c place p b P r l u))
+call_holds P (insert place p) c xs b few h = whole_holds P (applied (insert place p) c) xs h.room
+call_holds P (remove place) c xs b few h = whole_holds P (applied (remove place) c) xs h.room
+call_holds P (set_column k M R) c xs b few h = column_holds P (applied (set_column k M R) c) xs h.room k c refl refl h (other_column c k M R P)
+call_holds P (ignite n) c xs b few h = nozzle_holds n c P xs h
+call_holds P burnout c xs b few h = nozzle_holds _ c P xs h

@@ -9,7 +9,9 @@ pub mod Slots
 pub mod RowKinds
 pub mod Taken
 pub mod Overwritten
+pub mod MadeCells
 pub mod MadeRows
+pub mod MarkRows
 pub mod Laying
 pub mod Refusals
 pub mod Absent

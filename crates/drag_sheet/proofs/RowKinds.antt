@@ -14,6 +14,7 @@ use Rattle.sheet_data.specs.Contents.{Contents, fore_at, part_taken}
 use Rattle.sheet_data.specs.Tables.{tab_long, tab_same, tab_constant}
 use Rattle.elementary.specs.Constants.{0·0}
 use Rattle.drag_sheet.specs.Formulas.{friction_cell}
+use Rattle.drag_sheet.specs.Planes.{Plane}
 use Rattle.drag_sheet.specs.Build.{part, friction, base, total, kind_at, prepared_at, part_cell, kind_cell, row_from, row_test, trial, row_of}
 use Rattle.drag_sheet.specs.Calls.{with_nozzle}
 
@@ -31,18 +32,19 @@ kind_base F = rw (le-ltb (base_row F) most_parts (omega arith), le-ltb (base_row
 pub kind_total : (F r : ℕ) → total_row F 0 ≤ r → kind_at F r ≡ total (r - total_row F 0)
 kind_total F r h = rw (le-ltb r most_parts (omega arith), le-ltb r (base_row F) (omega arith), ne_eqb r (base_row F) (λ e. omega arith))
 
-pub row_wide : (c : Contents) (r : ℕ) → length (row_of c r) ≡ c.settings.count
-row_wide c r = tab_long c.settings.count _
+module _ {A : Type 0} (P : Plane A) where
+  pub row_wide : (c : Contents) (r : ℕ) → length (row_of P c r) ≡ c.settings.count
+  row_wide c r = tab_long c.settings.count _
 
--- the row of a part
-pub part_row : (c : Contents) (i : ℕ) → i < most_parts → i < length c.parts → row_from (prepared_at c i) c.settings ≡ row_of c i
-unfolding kind_cell part_cell
-part_row c i h l = tab_same c.settings.count _ _ (λ k m. sym (rw (kind_part c.settings.finishes i h, lt-ltb i (length c.parts) l)))
+  -- the row of a part
+  pub part_row : (c : Contents) (i : ℕ) → i < most_parts → i < length c.parts → row_from P (prepared_at c i) c.settings ≡ row_of P c i
+  unfolding kind_cell part_cell
+  part_row c i h l = tab_same c.settings.count _ _ (λ k m. sym (rw (kind_part c.settings.finishes i h, lt-ltb i (length c.parts) l)))
 
--- a row without a part
-pub no_part : (c : Contents) (i : ℕ) → i < most_parts → length c.parts ≤ i → replicate c.settings.count 0·0 ≡ row_of c i
-unfolding kind_cell part_cell
-no_part c i h l = tab_constant c.settings.count 0·0 ∙ tab_same c.settings.count _ _ (λ k m. sym (rw (kind_part c.settings.finishes i h, le-ltb i (length c.parts) l)))
+  -- a row without a part
+  pub no_part : (c : Contents) (i : ℕ) → i < most_parts → length c.parts ≤ i → replicate c.settings.count P.none ≡ row_of P c i
+  unfolding kind_cell part_cell
+  no_part c i h l = tab_constant c.settings.count P.none ∙ tab_same c.settings.count _ _ (λ k m. sym (rw (kind_part c.settings.finishes i h, le-ltb i (length c.parts) l)))
 
 -- ---- what doesn't depend on the nozzle diameter: the trial of the rows, the part rows and the friction rows
 
@@ -52,13 +54,13 @@ module _ (n : Float) (c : Contents) where
   same_trial = refl
 
   -- a row that stands above the base row
-  pub above_base : (r : ℕ) → r < base_row c.settings.finishes → row_of (with_nozzle n c) r ≡ row_of c r
+  pub above_base : {A : Type 0} (P : Plane A) (r : ℕ) → r < base_row c.settings.finishes → row_of P (with_nozzle n c) r ≡ row_of P c r
   unfolding kind_cell part_cell friction_cell
-  above_base r h =
+  above_base P r h =
       let j = r - friction_row 0 in
       dite (dec_lt r most_parts)
       (λ l. tab_same c.settings.count _ _ (λ k m. rw (kind_part c.settings.finishes r l)))
-      (λ l. let e : friction_row j ≡ r = omega arith in subst (λ q. row_of (with_nozzle n c) q ≡ row_of c q) e (tab_same c.settings.count _ _ (λ k m. rw (kind_friction c.settings.finishes j (omega arith)))))
+      (λ l. let e : friction_row j ≡ r = omega arith in subst (λ q. row_of P (with_nozzle n c) q ≡ row_of P c q) e (tab_same c.settings.count _ _ (λ k m. rw (kind_friction c.settings.finishes j (omega arith)))))
 
 -- the fore diameter of a place of the design, looked up among the parts that count
 pub fore_taken : (n i : ℕ) (ps : List Part) → i ≤ n → fore_at ps i ≡ fore_at (take n ps) i

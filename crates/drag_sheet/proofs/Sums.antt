@@ -11,6 +11,7 @@ use Rattle.elementary.specs.Constants.{0·0}
 use Rattle.sheet_data.specs.Tables.{tab, tab_long, tab_at, tab_same}
 use Rattle.sheet_data.specs.Rows.{row_at}
 use Rattle.drag_sheet.specs.Formulas.{sum_to}
+use Rattle.drag_sheet.specs.Planes.{cell_plane}
 use Rattle.drag_sheet.specs.Writing.{there}
 
 pub sum_none : (f : ℕ → Float) → sum_to 0 f ≡ 0·0
@@ -20,11 +21,6 @@ sum_none f = refl
 pub sum_more : (n : ℕ) (f : ℕ → Float) → sum_to (n + 1) f ≡ sum_to n f ⊕ f n
 unfolding sum_to
 sum_more n f = rw (add-one n)
-
-pub sum_same : (n : ℕ) (f g : ℕ → Float) → ((i : ℕ) → i < n → f i ≡ g i) → sum_to n f ≡ sum_to n g
-unfolding sum_to
-sum_same zero f g h = refl
-sum_same (suc n) f g h = rw (sum_same n f g (λ i l. h i (omega arith)), h n (omega arith))
 
 -- a row added to a row of sums
 pub row_added : (C : ℕ) (sum out : List Float) (g x f : ℕ → Float) → sum ≡ tab C g → out ≡ tab (length sum) (λ k. get_or sum k nan ⊕ x k) → ((k : ℕ) → k < C → x k ≡ f k)
@@ -59,10 +55,10 @@ four_terms_more C n f sum out w x y z s h same =
 
 -- a row that is there added to a sum
 pub add_there : (C r : ℕ) (xs row sum out : List Float) (g : ℕ → Float) → row ≡ row_at C xs r → sum ≡ tab C g → out ≡ tab (length sum) (λ k. get_or sum k nan ⊕ get_or row k nan)
-    → out ≡ tab C (λ k. g k ⊕ there C xs r k)
-add_there C r xs row sum out g e s h = row_added C sum out g (λ k. get_or row k nan) (λ k. there C xs r k) s h (λ k m. rw e)
+    → out ≡ tab C (λ k. g k ⊕ there cell_plane C xs r k)
+add_there C r xs row sum out g e s h = row_added C sum out g (λ k. get_or row k nan) (λ k. there cell_plane C xs r k) s h (λ k m. rw e)
 
 -- and one term more of sums of rows that are there
-pub there_more : (C n : ℕ) (xs row sum out : List Float) → row ≡ row_at C xs n → sum ≡ tab C (λ k. sum_to n (λ i. there C xs i k)) → out ≡ tab (length sum) (λ k. get_or sum k nan ⊕ get_or row k nan)
-    → out ≡ tab C (λ k. sum_to (n + 1) (λ i. there C xs i k))
-there_more C n xs row sum out e s h = terms_more C n (λ k i. there C xs i k) sum out (λ k. get_or row k nan) s h (λ k m. rw e)
+pub there_more : (C n : ℕ) (xs row sum out : List Float) → row ≡ row_at C xs n → sum ≡ tab C (λ k. sum_to n (λ i. there cell_plane C xs i k)) → out ≡ tab (length sum) (λ k. get_or sum k nan ⊕ get_or row k nan)
+    → out ≡ tab C (λ k. sum_to (n + 1) (λ i. there cell_plane C xs i k))
+there_more C n xs row sum out e s h = terms_more C n (λ k i. there cell_plane C xs i k) sum out (λ k. get_or row k nan) s h (λ k m. rw e)

@@ -1,7 +1,7 @@
 -- The functions that fill a row are lent the columns that count: a row over them is the row of the settings.
 use Rattle.std.specs.Prelude.{Ok}
 use Rattle.aero_error.specs.Checks.{up_to, Check}
-use mathlib.Core.Path.{◌≡◌, ap}
+use mathlib.Core.Path.{◌≡◌, ap, ◌∙◌}
 use mathlib.Core.List.{List}
 use Prim.Native.Nat.{ℕ, ◌≤◌}
 use lib.ListN.{length, take, get_or, replicate}
@@ -16,22 +16,24 @@ use Rattle.sheet_data.specs.Contents.{mach_at}
 use Rattle.sheet_data.specs.Tables.{tab, tab_same}
 use Rattle.drag_sheet.specs.declared.part.Row.{Row}
 use Rattle.drag_sheet.specs.Formulas.{cell_of, made_test, value_of}
+use Rattle.drag_sheet.specs.Planes.{Plane}
 use Rattle.drag_sheet.specs.Build.{row_test_from, row_from}
 use Rattle.drag_sheet.specs.Writing.{Filled}
 use Rattle.drag_sheet.proofs.Verdicts.{filled_same}
 
--- so many of the +0 that a row is added up from
-pub zero_row : (n : ℕ) → n ≤ most_columns → take n (replicate most_columns 0·0) ≡ replicate n 0·0
-zero_row n h = take-replicate n most_columns 0·0 h
+-- so many of what a row is filled or added up from
+pub zero_row : {A : Type 0} (n : ℕ) (v : A) → n ≤ most_columns → take n (replicate most_columns v) ≡ replicate n v
+zero_row n v h = take-replicate n most_columns v h
 
-pub taken_row : (row : Row) (s : Settings) → s.count ≤ length s.machs → {r : Check} {out : List Float}
-    → Filled (up_to (length (take s.count s.machs)) (λ k. made_test (cell_of row (get_or (take s.count s.machs) k nan)))) (tab (length (take s.count s.machs)) (λ k. value_of (cell_of row (get_or (take s.count s.machs) k nan)))) r out
-    → Filled (row_test_from (Ok row) s) (row_from (Ok row) s) r out
-taken_row row s h f =
+-- a part's row in a plane, filled by what the row holds at each Mach number
+pub taken_row : {A : Type 0} (P : Plane A) (at : Float → A) (row : Row) (s : Settings) → s.count ≤ length s.machs → ((M : Float) → at M ≡ P.of_part (Ok row) M) → {r : Check} {out : List A}
+    → Filled (up_to (length (take s.count s.machs)) (λ k. made_test (cell_of row (get_or (take s.count s.machs) k nan)))) (tab (length (take s.count s.machs)) (λ k. at (get_or (take s.count s.machs) k nan))) r out
+    → Filled (row_test_from (Ok row) s) (row_from P (Ok row) s) r out
+taken_row P at row s h same f =
     let n = length-take-le s.count s.machs h in
     filled_same
     (rw n (up_same _ _ s.count (λ i l. ap (λ M. made_test (cell_of row M)) (get_or-take s.count s.machs i nan l))))
-    (rw n (tab_same s.count _ _ (λ i l. ap (λ M. value_of (cell_of row M)) (get_or-take s.count s.machs i nan l))))
+    (rw n (tab_same s.count _ _ (λ i l. ap at (get_or-take s.count s.machs i nan l) ∙ same (mach_at s i))))
     f
 
 pub taken_cells : (f : Float → Float) (s : Settings) → tab s.count (λ k. f (get_or (take s.count s.machs) k nan)) ≡ tab s.count (λ k. f (mach_at s k))

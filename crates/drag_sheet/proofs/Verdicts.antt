@@ -12,13 +12,13 @@ use Rattle.drag_sheet.specs.Writing.{Filled, chosen}
 pub never : {A : Type 0} {check : Check} {e : AeroError} → check ≡ Err e → check ≡ Ok tt → A
 never h p = let z : ◌≡◌ {A = ℕ} 0 1 = cc in absurd (omega arith)
 
-pub filled_refused : {test r : Check} {e : AeroError} {cells out : List Float} → test ≡ Err e → r ≡ Err e → Filled test cells r out
+pub filled_refused : {A : Type 0} {test r : Check} {e : AeroError} {cells out : List A} → test ≡ Err e → r ≡ Err e → Filled test cells r out
 filled_refused h k = record { verdict = k ∙ sym h; made = λ p. never h p }
 
-pub filled_passed : {test : Check} {cells out : List Float} → test ≡ Ok tt → out ≡ cells → Filled test cells (Ok tt) out
+pub filled_passed : {A : Type 0} {test : Check} {cells out : List A} → test ≡ Ok tt → out ≡ cells → Filled test cells (Ok tt) out
 filled_passed h e = record { verdict = sym h; made = λ p. e }
 
-pub filled_same : {test other r : Check} {cells others out : List Float} → test ≡ other → cells ≡ others → Filled test cells r out → Filled other others r out
+pub filled_same : {A : Type 0} {test other r : Check} {cells others out : List A} → test ≡ other → cells ≡ others → Filled test cells r out → Filled other others r out
 filled_same p q f = record { verdict = f.verdict ∙ p; made = λ e. f.made (p ∙ e) ∙ q }
 
 pub chosen_passed : {A : Type 0} {test : Check} (given left : A) → test ≡ Ok tt → left ≡ chosen test given left

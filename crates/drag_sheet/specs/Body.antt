@@ -1,6 +1,6 @@
--- The rows of the whole body as the code works them out: the base with its share of the reference area, and the friction with what each column and each roughness
--- decides worked out once.
-use Rattle.std.specs.Prelude.{◌≡◌, Bool, true, false, List, ℕ, ◌≤◌, ◌<◌, length, get_or, replicate, Float, is_some, Option, Some, None, Result, Ok}
+-- The rows of the whole body as the code works them out: the base with its share of the reference area, the friction with what each column and each roughness
+-- decides worked out once, and the totals' marks taken from one part row after the other.
+use Rattle.std.specs.Prelude.{◌≡◌, Bool, true, false, cond, eqb, List, ℕ, ◌≤◌, ◌<◌, length, get_or, replicate, Float, is_some, Option, Some, None, Result, Ok}
 use Rattle.std.specs.Float.{nan}
 use Rattle.std.specs.List.{list_any}
 use Rattle.elementary.specs.Arithmetic.{◌⊕◌, ◌⊗◌}
@@ -70,3 +70,9 @@ formed_for (Some x) common form flow = formed (wall_of x) form flow
 -- four more terms of a sum
 abbrev pub four_more : Float → Float → Float → Float → Float → Float → Float
 four_more sum x a b c d = sum ⊕ x ⊗ a ⊕ x ⊗ b ⊕ x ⊗ c ⊕ x ⊗ d
+
+-- ---- the marks of a total
+
+-- one part row more
+abbrev pub any_more : ℕ → ℕ → ℕ
+any_more any mark = cond (eqb mark 0) any 1

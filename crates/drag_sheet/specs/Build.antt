@@ -1,16 +1,14 @@
--- A whole sheet built from nothing (docs/REFERENCE.md, Rows): each cell by its row's kind and its column, from the contents alone; and the trial of its
+-- A whole sheet built from nothing (docs/REFERENCE.md, Rows): each cell and each mark by its row's kind and its column, from the contents alone; and the trial of its
 -- rows, "at each place by column from 0", which says whether it can be built.
 use Rattle.aero_error.specs.Checks.{◌then◌, up_to, Check}
-use Rattle.drag_sheet.specs.Formulas.{Prepared}
 use Rattle.std.specs.Prelude.{cond, List, ℕ, ◌-◌, length, ltb, eqb, Float}
-use Rattle.elementary.specs.Arithmetic.{◌⊕◌}
-use Rattle.elementary.specs.Constants.{0·0}
 use Rattle.sheet_data.specs.declared.Settings.{Settings}
 use Rattle.sheet_data.specs.Layout.{most_parts, friction_row, base_row, total_row, all_rows}
 use Rattle.sheet_data.specs.Contents.{Contents, part_at, fore_at, mach_at, reynolds_at}
 use Rattle.sheet_data.specs.Tables.{tab}
 use Rattle.sheet_data.specs.Rows.{laid}
-use Rattle.drag_sheet.specs.Formulas.{prepared_of, cell_from, ready_test, made_test, value_of, sum_to, friction_cell, base_cell}
+use Rattle.drag_sheet.specs.Formulas.{Prepared, prepared_of, cell_from, ready_test, made_test, friction_cell, base_cell}
+use Rattle.drag_sheet.specs.Planes.{Plane}
 
 -- ---- part rows
 
@@ -18,12 +16,9 @@ use Rattle.drag_sheet.specs.Formulas.{prepared_of, cell_from, ready_test, made_t
 abbrev pub prepared_at : Contents → ℕ → Prepared
 prepared_at c i = prepared_of c.settings.reference_diameter (fore_at c.parts i) (part_at c.parts i)
 
--- a row tried, by column from 0, and its cells
+-- a row tried, by column from 0
 abbrev pub row_test_from : Prepared → Settings → Check
 row_test_from p s = ready_test p then up_to s.count (λ k. made_test (cell_from p (mach_at s k)))
-
-abbrev pub row_from : Prepared → Settings → List Float
-row_from p s = tab s.count (λ k. value_of (cell_from p (mach_at s k)))
 
 unfoldable pub row_test : Contents → ℕ → Check
 row_test c i = row_test_from (prepared_at c i) c.settings
@@ -48,27 +43,28 @@ kind_at F r =
     (cond (ltb r (base_row F)) (friction (r - friction_row 0))
     (cond (eqb r (base_row F)) base (total (r - total_row F 0))))
 
--- a part's cell, "d = f, or no part: +0"
-unfoldable pub part_cell : Contents → ℕ → Float → Float
-part_cell c i M = cond (ltb i (length c.parts)) (value_of (cell_from (prepared_at c i) M)) 0·0
+module _ {A : Type 0} (P : Plane A) where
+  -- a part's row
+  abbrev pub row_from : Prepared → Settings → List A
+  row_from p s = tab s.count (λ k. P.of_part p (mach_at s k))
 
--- "+0, plus all 16 part rows by place, plus friction, plus base"
-abbrev pub total_of : (ℕ → Float) → Float → Float → Float
-total_of held rubbed behind = sum_to most_parts held ⊕ rubbed ⊕ behind
+  -- "or no part"
+  unfoldable pub part_cell : Contents → ℕ → Float → A
+  part_cell c i M = cond (ltb i (length c.parts)) (P.of_part (prepared_at c i) M) P.none
 
--- a cell by its row's kind, at a Mach and a Reynolds number
-unfoldable pub kind_cell : Contents → Kind → Float → Float → Float
-kind_cell c (part i) M R = part_cell c i M
-kind_cell c (friction j) M R = friction_cell c j M R
-kind_cell c base M R = base_cell c M
-kind_cell c (total j) M R = total_of (λ i. part_cell c i M) (friction_cell c j M R) (base_cell c M)
+  -- by a row's kind, at a Mach and a Reynolds number
+  unfoldable pub kind_cell : Contents → Kind → Float → Float → A
+  kind_cell c (part i) M R = part_cell c i M
+  kind_cell c (friction j) M R = P.of_body (friction_cell c j M R)
+  kind_cell c base M R = P.of_body (base_cell c M)
+  kind_cell c (total j) M R = P.of_total (λ i. part_cell c i M) (P.of_body (friction_cell c j M R)) (P.of_body (base_cell c M))
 
--- the cell of row r and column k
-abbrev pub cell_at : Contents → ℕ → ℕ → Float
-cell_at c r k = kind_cell c (kind_at c.settings.finishes r) (mach_at c.settings k) (reynolds_at c.settings k)
+  -- of row r and column k
+  abbrev pub cell_at : Contents → ℕ → ℕ → A
+  cell_at c r k = kind_cell c (kind_at c.settings.finishes r) (mach_at c.settings k) (reynolds_at c.settings k)
 
-abbrev pub row_of : Contents → ℕ → List Float
-row_of c r = tab c.settings.count (cell_at c r)
+  abbrev pub row_of : Contents → ℕ → List A
+  row_of c r = tab c.settings.count (cell_at c r)
 
-unfoldable pub build : Contents → List Float
-build c = laid (all_rows c.settings.finishes) (row_of c)
+  unfoldable pub build : Contents → List A
+  build c = laid (all_rows c.settings.finishes) (row_of c)

@@ -14,7 +14,8 @@ use Rattle.sheet_data.specs.Tests.{part_test, nozzle_test, settings_test, sheet_
 use Rattle.sheet_data.specs.Rows.{from}
 use Rattle.drag_sheet.specs.Formulas.{cell_from, ready_test, made_test}
 use Rattle.drag_sheet.specs.Build.{prepared_at, row_test, trial}
-use Rattle.drag_sheet.specs.Writing.{chosen, Scope, rows, column, whole, overwritten}
+use Rattle.drag_sheet.specs.Planes.{Lent, cells_lent}
+use Rattle.drag_sheet.specs.Writing.{chosen, Scope, rows, column, whole, rewritten}
 
 -- what is asked of a sheet
 pub data Call : Type 0 where
@@ -146,12 +147,12 @@ abbrev pub answered : Check → Sheet → Sheet → Answer
 answered (Ok tt) given left = record { outcome = Ok tt; sheet = left }
 answered (Err e) given left = record { outcome = Err e; sheet = given }
 
--- what each call's contract says: of its answer r, and of the lent cells before (xs) and after (ys)
-pub record Called (call : Call) (sheet : Sheet) (xs : List Float) (r : Answer) (ys : List Float) : Type 0 where
-  pub answer : r ≡ answered (decision call sheet (length xs)) sheet (sheet_with (after call sheet) sheet)
-  pub left : ys ≡ chosen (decision call sheet (length xs)) xs (overwritten (scope call (after call sheet)) (after call sheet) xs)
+-- what each call's contract says: of its answer r, and of the lent buffers before (xs) and after (ys)
+pub record Called (call : Call) (sheet : Sheet) (xs : Lent) (r : Answer) (ys : Lent) : Type 0 where
+  pub answer : r ≡ answered (decision call sheet (cells_lent xs)) sheet (sheet_with (after call sheet) sheet)
+  pub left : ys ≡ chosen (decision call sheet (cells_lent xs)) xs (rewritten (scope call (after call sheet)) (after call sheet) xs)
 
 -- what open's contract says. With no parts nothing can fail to be built
-pub record Opened (s : Settings) (xs : List Float) (r : Answer) (ys : List Float) : Type 0 where
-  pub answer : r ≡ answered (settings_test s (length xs)) (blank s) (blank s)
-  pub left : ys ≡ chosen (settings_test s (length xs)) xs (overwritten whole (contents_of (blank s)) xs)
+pub record Opened (s : Settings) (xs : Lent) (r : Answer) (ys : Lent) : Type 0 where
+  pub answer : r ≡ answered (settings_test s (cells_lent xs)) (blank s) (blank s)
+  pub left : ys ≡ chosen (settings_test s (cells_lent xs)) xs (rewritten whole (contents_of (blank s)) xs)

@@ -5,13 +5,13 @@ use Rattle.sheet_data.specs.declared.Settings.{Settings}
 use Rattle.sheet_data.specs.declared.Part.{Part}
 use Rattle.sheet_data.specs.declared.Design.{Design}
 use Rattle.sheet_data.specs.declared.Sheet.{Sheet}
-use Rattle.elementary.specs.Constants.{0·0}
 use Rattle.sheet_data.specs.Layout.{most_parts, most_columns, most_finishes, needed}
 use Rattle.sheet_data.specs.Contents.{Contents, contents_of}
 use Rattle.sheet_data.specs.Rows.{written}
 use Rattle.drag_sheet.specs.Calls.{with_nozzle, sheet_with, row_test_where, nozzle_rows, body_rows, replaced_rows}
+use Rattle.drag_sheet.specs.Planes.{Plane, Lent}
 use Rattle.drag_sheet.specs.Build.{row_test, cell_at}
-use Rattle.drag_sheet.specs.Writing.{chosen, rows, overwritten}
+use Rattle.drag_sheet.specs.Writing.{chosen, rows, overwritten, rewritten}
 
 abbrev pub replaced_in : Design → ℕ → Part → Design
 replaced_in d place p = record { count = d.count; parts = set d.parts place p }
@@ -35,29 +35,30 @@ pub record RowAsked (sheet : Sheet) (place width : ℕ) : Type 0 where
   pub inside : place < sheet.design.count
   pub wide : width ≡ sheet.settings.count
 
--- a column of a sheet asked for, into so many cells, all +0
-pub record ColumnAsked (sheet : Sheet) (column : ℕ) (xs : List Float) : Type 0 where
+-- a column of a sheet asked for, into so many cells, in which nothing is written yet
+pub record ColumnAsked {A : Type 0} (sheet : Sheet) (column : ℕ) (none : A) (xs : List A) : Type 0 where
   pub finishes : sheet.settings.finishes ≤ most_finishes
   pub columns : sheet.settings.count ≤ most_columns
   pub parts : sheet.design.count ≤ most_parts
   pub inside : column < sheet.settings.count
-  pub zeros : xs ≡ replicate (needed sheet.settings.finishes 1) 0·0
+  pub empty : xs ≡ replicate (needed sheet.settings.finishes 1) none
 
--- the cell of each row in one column
-abbrev pub cell_of_column : Contents → ℕ → ℕ → Float
-cell_of_column c k r = cell_at c r k
+module _ {A : Type 0} (P : Plane A) where
+  -- the cell of each row in one column
+  abbrev pub cell_of_column : Contents → ℕ → ℕ → A
+  cell_of_column c k r = cell_at P c r k
 
--- the rows that change with the part at a place
-pub record Changed (sheet : Sheet) (place : ℕ) (xs : List Float) (r : Check) (ys : List Float) : Type 0 where
-  pub verdict : r ≡ (row_test (contents_of sheet) place then row_test_where (contents_of sheet) (place + 1))
-  pub cells : ys ≡ chosen (row_test (contents_of sheet) place then row_test_where (contents_of sheet) (place + 1)) xs (overwritten (rows (body_rows sheet.settings.finishes ++ replaced_rows place sheet.design.count)) (contents_of sheet) xs)
+  -- the rows that change with the part at a place
+  pub record Changed (sheet : Sheet) (place : ℕ) (xs : List A) (r : Check) (ys : List A) : Type 0 where
+    pub verdict : r ≡ (row_test (contents_of sheet) place then row_test_where (contents_of sheet) (place + 1))
+    pub cells : ys ≡ chosen (row_test (contents_of sheet) place then row_test_where (contents_of sheet) (place + 1)) xs (overwritten P (rows (body_rows sheet.settings.finishes ++ replaced_rows place sheet.design.count)) (contents_of sheet) xs)
 
--- the same once its own row is built and a part follows
-pub record NextWritten (sheet : Sheet) (place : ℕ) (own xs : List Float) (r : Check) (ys : List Float) : Type 0 where
-  pub verdict : r ≡ row_test (contents_of sheet) (place + 1)
-  pub cells : ys ≡ chosen (row_test (contents_of sheet) (place + 1)) xs (overwritten (rows (body_rows sheet.settings.finishes ++ (place + 1) ∷ [])) (contents_of sheet) (written (place * sheet.settings.count) own xs))
+  -- the same once its own row is built and a part follows
+  pub record NextWritten (sheet : Sheet) (place : ℕ) (own xs : List A) (r : Check) (ys : List A) : Type 0 where
+    pub verdict : r ≡ row_test (contents_of sheet) (place + 1)
+    pub cells : ys ≡ chosen (row_test (contents_of sheet) (place + 1)) xs (overwritten P (rows (body_rows sheet.settings.finishes ++ (place + 1) ∷ [])) (contents_of sheet) (written (place * sheet.settings.count) own xs))
 
--- a nozzle diameter put, with its rows: the sheet before and after, and the cells before (xs) and after (ys)
-pub record NozzlePut (n : Float) (sheet : Sheet) (xs : List Float) (left : Sheet) (ys : List Float) : Type 0 where
+-- a nozzle diameter put, with its rows: the sheet before and after, and the lent buffers before (xs) and after (ys)
+pub record NozzlePut (n : Float) (sheet : Sheet) (xs : Lent) (left : Sheet) (ys : Lent) : Type 0 where
   pub sheet_left : left ≡ sheet_with (with_nozzle n (contents_of sheet)) sheet
-  pub cells : ys ≡ overwritten (rows (nozzle_rows sheet.settings.finishes)) (with_nozzle n (contents_of sheet)) xs
+  pub both : ys ≡ rewritten (rows (nozzle_rows sheet.settings.finishes)) (with_nozzle n (contents_of sheet)) xs

@@ -1,6 +1,7 @@
 -- The formulas of docs/REFERENCE.md, Rows, for the cells of a sheet, in their own order of operations. f is a part's fore diameter, the previous part's aft diameter d;
 -- D is the reference diameter, M a Mach number, R a Reynolds number.
-use Rattle.std.specs.Prelude.{cond, ℕ, zero, suc, length, Float, Option, Some, None, Result, Ok, Err}
+use Rattle.std.specs.Prelude.{◌≡◌, refl, cond, ℕ, zero, suc, ◌<◌, length, eqb, Float, Option, Some, None, Result, Ok, Err}
+use Rattle.std.proofs.Common.{arith}
 use Rattle.std.specs.Result.{result_unwrap_or}
 use Rattle.aero_error.specs.Checks.{◌for_value◌, Check, Coefficient}
 use Rattle.elementary.specs.Arithmetic.{◌⊕◌, ◌⊖◌, ◌⊗◌, ◌⊘◌, ◌≺◌}
@@ -9,9 +10,11 @@ use Rattle.aero_error.specs.declared.AeroError.{AeroError}
 use Rattle.drag.specs.Friction.{skin_friction_coefficient, body_friction_form_factor}
 use Rattle.drag.specs.Pressure.{base_drag_coefficient, boattail_factor}
 use Rattle.nose_drag.specs.Curves.{Curve, new_curve, coefficient_of}
+use Rattle.nose_drag.specs.Beyond.{curve_beyond}
 use Rattle.sheet_data.specs.declared.Settings.{Settings}
 use Rattle.sheet_data.specs.declared.Part.{Part}
 use Rattle.sheet_data.specs.Contents.{Contents, part_at, fore_at, roughness_at}
+use Rattle.drag_sheet.specs.declared.part.MarkedCell.{MarkedCell}
 use Rattle.drag_sheet.specs.declared.part.Row.{Row}
 use Rattle.drag_sheet.specs.declared.part.Row.TheVariants.{Widening, Narrowing, Level}
 
@@ -56,6 +59,20 @@ abbrev pub cell_from : Prepared → Float → Coefficient
 cell_from (Ok row) M = cell_of row M
 cell_from (Err e) M = Err e
 
+-- its mark: 1 where the curve rests on a table beyond its last point, whatever the area; "part rows without a curve have none"
+unfoldable pub mark_of : Row → Float → ℕ
+mark_of (Widening curve area) M = cond (curve_beyond curve M) 1 0
+mark_of (Narrowing l f d area) M = 0
+mark_of Level M = 0
+
+abbrev pub mark_from : Prepared → Float → ℕ
+mark_from (Ok row) M = mark_of row M
+mark_from (Err e) M = 0
+
+-- a cell with its mark, or the cell's refusal
+unfoldable pub marked_cell : Row → Float → Result MarkedCell AeroError
+marked_cell row M = cell_of row M for_value λ v. Ok (record { value = v; mark = mark_of row M })
+
 -- whether a row is ready, and whether a cell was made
 abbrev pub ready_test : Prepared → Check
 ready_test (Ok row) = Ok tt
@@ -75,6 +92,21 @@ value_of c = result_unwrap_or c 0·0
 unfoldable pub sum_to : ℕ → (ℕ → Float) → Float
 sum_to zero f = 0·0
 sum_to (suc n) f = sum_to n f ⊕ f n
+
+pub sum_same : (n : ℕ) (f g : ℕ → Float) → ((i : ℕ) → i < n → f i ≡ g i) → sum_to n f ≡ sum_to n g
+unfolding sum_to
+sum_same zero f g h = refl
+sum_same (suc n) f g h = rw (sum_same n f g (λ i l. h i (omega arith)), h n (omega arith))
+
+-- 1 if any of f 0, f 1, .., n of them, isn't 0, else 0
+unfoldable pub any_to : ℕ → (ℕ → ℕ) → ℕ
+any_to zero f = 0
+any_to (suc n) f = cond (eqb (f n) 0) (any_to n f) 1
+
+pub any_same : (n : ℕ) (f g : ℕ → ℕ) → ((i : ℕ) → i < n → f i ≡ g i) → any_to n f ≡ any_to n g
+unfolding any_to
+any_same zero f g h = refl
+any_same (suc n) f g h = rw (any_same n f g (λ i l. h i (omega arith)), h n (omega arith))
 
 -- a part's roughness, k being the settings': "absent, it is the settings' one"
 abbrev pub roughness_of : Option Float → Float → Float

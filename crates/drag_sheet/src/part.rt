@@ -1,10 +1,11 @@
-// A part's row: what it is made from, its cells, and the row filled or refused.
+// A part's row: what it is made from, its cells with their marks, and the row filled or refused.
 ghost use Rattle.std.specs.Prelude.{◌≡◌, ◌≤◌, length, get_or};
 ghost use Rattle.std.specs.Float.{nan};
 ghost use Rattle.aero_error.specs.Checks.{up_to};
 ghost use Rattle.sheet_data.specs.Layout.{most_columns};
 ghost use Rattle.sheet_data.specs.Tables.{tab};
-ghost use Rattle.drag_sheet.specs.Formulas.{prepared_of, cell_of, value_of, made_test, area_ratio, boattail_drag};
+ghost use Rattle.drag_sheet.specs.Formulas.{prepared_of, cell_of, mark_of, marked_cell, value_of, made_test, area_ratio, boattail_drag};
+ghost use Rattle.drag_sheet.specs.Planes.{cell_plane, mark_plane};
 ghost use Rattle.drag_sheet.specs.Build.{row_test_from, row_from};
 ghost use Rattle.drag_sheet.specs.Writing.{Filled};
 
@@ -27,6 +28,21 @@ pub enum Row {
         area: f64,
     },
     Level,
+}
+
+// A part's cell at a Mach number, and its mark: 1 where it rests on a table beyond its last point, else 0.
+#[derive(Clone, Copy)]
+pub(crate) struct MarkedCell {
+    pub(crate) value: f64,
+    pub(crate) mark: u8,
+}
+
+impl MarkedCell {
+    fn unmarked(value: f64) -> MarkedCell
+        ensures { result ≡ record { value = value; mark = 0 } }
+    {
+        MarkedCell { value, mark: 0 }
+    }
 }
 
 // (a×a - b×b)/(D×D)
@@ -69,44 +85,55 @@ fn boattail(length: f64, fore: f64, aft: f64, mach: f64) -> Result<f64, AeroErro
 }
 
 // A part's cell at a Mach number.
-#[tactic(auto, unfolding(crate::specs::Formulas::cell_of))]
-fn cell(row: Row, mach: f64) -> Result<f64, AeroError>
-    ensures { result ≡ cell_of row mach }
+#[tactic(auto, unfolding(crate::specs::Formulas::cell_of, crate::specs::Formulas::mark_of, crate::specs::Formulas::marked_cell))]
+fn cell(row: Row, mach: f64) -> Result<MarkedCell, AeroError>
+    ensures { result ≡ marked_cell row mach }
 {
     match row {
-        Row::Widening { curve, area } => Ok(curve.coefficient(mach)? * area),
+        Row::Widening { curve, area } => {
+            let drag = curve.coefficient(mach)?;
+            Ok(MarkedCell {
+                value: drag.value * area,
+                mark: u8::from(drag.beyond),
+            })
+        }
         Row::Narrowing {
             length,
             fore,
             aft,
             area,
-        } => Ok(boattail(length, fore, aft, mach)? * area),
-        Row::Level => Ok(0.0),
+        } => Ok(MarkedCell::unmarked(boattail(length, fore, aft, mach)? * area)),
+        Row::Level => Ok(MarkedCell::unmarked(0.0)),
     }
 }
 
-// Fills `out` with a part's cells, one for each Mach number, or stops at the first that is refused.
-fn fill_row(row: Row, machs: &[f64], out: &mut [f64]) -> Result<(), AeroError>
-    requires { length machs.now ≡ length out.old }
-    ensures { Filled (up_to (length machs.now) (λ k. made_test (cell_of row (get_or machs.now k nan)))) (tab (length machs.now) (λ k. value_of (cell_of row (get_or machs.now k nan)))) result out.new }
+// Fills `out` with a part's cells, one for each Mach number, and `marks` with their marks, or stops at the first that is refused.
+fn fill_row(row: Row, machs: &[f64], out: &mut [f64], marks: &mut [u8]) -> Result<(), AeroError>
+    requires { (length machs.now ≡ length out.old) × (length machs.now ≡ length marks.old) }
+    ensures cells { Filled (up_to (length machs.now) (λ k. made_test (cell_of row (get_or machs.now k nan)))) (tab (length machs.now) (λ k. value_of (cell_of row (get_or machs.now k nan)))) result out.new }
+    ensures marks { Filled (up_to (length machs.now) (λ k. made_test (cell_of row (get_or machs.now k nan)))) (tab (length machs.now) (λ k. mark_of row (get_or machs.now k nan))) result marks.new }
 {
     // Tried over a zip: the proof didn't close. Of what is written through one nothing is known.
     for (i, mach) in machs.iter().enumerate() {
-        out[i] = cell(row, *mach)?;
+        let cell = cell(row, *mach)?;
+        out[i] = cell.value;
+        marks[i] = cell.mark;
     }
     Ok(())
 }
 
-// The row of a part after one with the aft diameter `fore`, into `out`, one cell for each column.
+// The row of a part after one with the aft diameter `fore`, into `out` and `marks`, one cell and one mark for each column.
 pub(crate) fn part_row(
     settings: Settings,
     fore: f64,
     part: Part,
     out: &mut [f64],
+    marks: &mut [u8],
 ) -> Result<(), AeroError>
-    requires { (settings.count ≤ most_columns) × (length out.old ≡ settings.count) }
-    ensures { Filled (row_test_from (prepared_of settings.reference_diameter fore part) settings) (row_from (prepared_of settings.reference_diameter fore part) settings) result out.new }
+    requires { (settings.count ≤ most_columns) × (length out.old ≡ settings.count) × (length marks.old ≡ settings.count) }
+    ensures cells { Filled (row_test_from (prepared_of settings.reference_diameter fore part) settings) (row_from cell_plane (prepared_of settings.reference_diameter fore part) settings) result out.new }
+    ensures marks { Filled (row_test_from (prepared_of settings.reference_diameter fore part) settings) (row_from mark_plane (prepared_of settings.reference_diameter fore part) settings) result marks.new }
 {
     let row = prepare(settings.reference_diameter, fore, part)?;
-    fill_row(row, &settings.machs[..settings.count], out)
+    fill_row(row, &settings.machs[..settings.count], out, marks)
 }

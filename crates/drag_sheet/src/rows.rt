@@ -1,4 +1,4 @@
-// The rows of a sheet over lent cells: where one begins, one written, the last rows written anew, all of them built from nothing, and a column.
+// The rows of a sheet over lent cells and marks: where one begins, one written, the last rows written anew, all of them built from nothing, and a column.
 // The functions that write keep the sheet, or its layout, and the lent cells as parameters of their own, with `Fits` in each contract: a
 // struct of both would say it once, and each of its methods would have to ensure in exchange that the lent cells stay the same ones (`ghost_name`).
 // A finish is a plain number below the layout's `finishes`, as a row is below `rows()`.
@@ -11,12 +11,14 @@ ghost use Rattle.sheet_data.specs.Contents.{contents_of, Fits};
 ghost use Rattle.sheet_data.specs.Tables.{tab};
 ghost use Rattle.sheet_data.specs.Rows.{from, written, rows_written};
 ghost use Rattle.drag_sheet.specs.Body.{KeptFlows};
+ghost use Rattle.drag_sheet.specs.Planes.{cell_plane, mark_plane};
 ghost use Rattle.drag_sheet.specs.Build.{row_of, trial, build};
 ghost use Rattle.drag_sheet.specs.Writing.{parts_there, total_there, totalled, column_put, Filled, AllWritten};
 ghost use Rattle.drag_sheet.specs.Calls.{nozzle_rows, body_rows, set_column as column_call, after, column_trial};
 ghost use Rattle.drag_sheet.specs.Edits.{ColumnAsked, cell_of_column};
 
 use crate::cells::each_cell;
+use crate::marks::mark_body;
 use crate::{body, edits, friction, part};
 use aero_error::AeroError;
 use drag::Flow;
@@ -43,8 +45,8 @@ pub(crate) fn offset(layout: Layout, row: usize) -> usize
     row * layout.columns
 }
 
-// Writes cells from `at` on.
-pub(crate) fn write_row(at: usize, row: &[f64], cells: &mut [f64])
+// Writes cells, or marks, from `at` on.
+pub(crate) fn write_row<T: Copy>(at: usize, row: &[T], cells: &mut [T])
     requires { at + length row.now ≤ length cells.old }
     ensures { cells.new ≡ written at row.now cells.old }
 {
@@ -60,7 +62,7 @@ fn add_row(sum: &mut [f64], row: &[f64])
 }
 
 // Adds up the part rows, column by column, into `sum`, which holds +0.
-fn add_parts(rows: Rows, sum: &mut [f64])
+fn add_parts(rows: Rows<f64>, sum: &mut [f64])
     requires { sum.old ≡ replicate rows.layout.columns 0·0 }
     ensures { sum.new ≡ parts_there rows.entry.layout.columns rows.entry.cells.now }
 {
@@ -70,9 +72,9 @@ fn add_parts(rows: Rows, sum: &mut [f64])
 }
 
 // The total row of a finish: its friction row and the base row as they stand, added to `sum`, which holds the part rows added up.
-fn sum_rows(finish: usize, rows: Rows, sum: &mut [f64])
+fn sum_rows(finish: usize, rows: Rows<f64>, sum: &mut [f64])
     requires { (finish < rows.layout.finishes) × (sum.old ≡ parts_there rows.layout.columns rows.cells.now) }
-    ensures { sum.new ≡ total_there rows.entry.layout.finishes rows.entry.layout.columns rows.entry.cells.now finish }
+    ensures { sum.new ≡ total_there cell_plane rows.entry.layout.finishes rows.entry.layout.columns rows.entry.cells.now finish }
 {
     add_row(sum, rows.row(FRICTION_ROW + finish));
     add_row(sum, rows.row(rows.layout.base_row()));
@@ -81,7 +83,7 @@ fn sum_rows(finish: usize, rows: Rows, sum: &mut [f64])
 // Writes the total row of a finish; `parts` begins with the part rows added up.
 fn write_total(finish: usize, layout: Layout, parts: &[f64; COLUMNS], cells: &mut [f64])
     requires { (finish < layout.finishes) × (needed layout.finishes layout.columns ≤ length cells.old) × (take layout.columns parts.now ≡ parts_there layout.columns cells.old) }
-    ensures { cells.new ≡ written (total_row layout.finishes finish * layout.columns) (total_there layout.finishes layout.columns cells.old finish) cells.old }
+    ensures { cells.new ≡ written (total_row layout.finishes finish * layout.columns) (total_there cell_plane layout.finishes layout.columns cells.old finish) cells.old }
 {
     let mut sum = *parts;
     let count = layout.columns;
@@ -98,7 +100,7 @@ fn write_total(finish: usize, layout: Layout, parts: &[f64; COLUMNS], cells: &mu
 #[tactic(auto, using(crate::proofs::Taken::zero_row))]
 fn write_totals(layout: Layout, cells: &mut [f64])
     requires { needed layout.finishes layout.columns ≤ length cells.old }
-    ensures { cells.new ≡ totalled layout.finishes layout.columns cells.old }
+    ensures { cells.new ≡ totalled cell_plane layout.finishes layout.columns cells.old }
 {
     let mut parts = [0.0; COLUMNS];
     let rows = Rows {
@@ -120,7 +122,7 @@ fn write_friction(
     cells: &mut [f64],
 )
     requires { Fits sheet (length cells.old) × (finish < sheet.settings.finishes) × KeptFlows sheet flows.now }
-    ensures { cells.new ≡ written (friction_row finish * sheet.settings.count) (row_of (contents_of sheet) (friction_row finish)) cells.old }
+    ensures { cells.new ≡ written (friction_row finish * sheet.settings.count) (row_of cell_plane (contents_of sheet) (friction_row finish)) cells.old }
 {
     let mut row = [0.0; COLUMNS];
     let count = sheet.settings.count;
@@ -132,7 +134,7 @@ fn write_friction(
 // Writes the friction rows.
 fn write_frictions(sheet: Sheet, cells: &mut [f64])
     requires { Fits sheet (length cells.old) }
-    ensures { cells.new ≡ rows_written sheet.settings.count (row_of (contents_of sheet)) (from (friction_row 0) sheet.settings.finishes) cells.old }
+    ensures { cells.new ≡ rows_written sheet.settings.count (row_of cell_plane (contents_of sheet)) (from (friction_row 0) sheet.settings.finishes) cells.old }
 {
     let flows = friction::kept_flows(sheet);
     for finish in 0usize..sheet.settings.finishes {
@@ -143,7 +145,7 @@ fn write_frictions(sheet: Sheet, cells: &mut [f64])
 // Writes the base row.
 fn write_base(sheet: Sheet, cells: &mut [f64])
     requires { Fits sheet (length cells.old) }
-    ensures { cells.new ≡ written (base_row sheet.settings.finishes * sheet.settings.count) (row_of (contents_of sheet) (base_row sheet.settings.finishes)) cells.old }
+    ensures { cells.new ≡ written (base_row sheet.settings.finishes * sheet.settings.count) (row_of cell_plane (contents_of sheet) (base_row sheet.settings.finishes)) cells.old }
 {
     let settings = sheet.settings;
     let count = settings.count;
@@ -157,7 +159,7 @@ fn write_base(sheet: Sheet, cells: &mut [f64])
 // Writes the base and total rows anew.
 pub(crate) fn write_nozzle_rows(sheet: Sheet, cells: &mut [f64])
     requires { Fits sheet (length cells.old) }
-    ensures { cells.new ≡ totalled sheet.settings.finishes sheet.settings.count (rows_written sheet.settings.count (row_of (contents_of sheet)) (nozzle_rows sheet.settings.finishes) cells.old) }
+    ensures { cells.new ≡ totalled cell_plane sheet.settings.finishes sheet.settings.count (rows_written sheet.settings.count (row_of cell_plane (contents_of sheet)) (nozzle_rows sheet.settings.finishes) cells.old) }
 {
     write_base(sheet, cells);
     write_totals(layout_of(sheet.settings), cells);
@@ -166,16 +168,17 @@ pub(crate) fn write_nozzle_rows(sheet: Sheet, cells: &mut [f64])
 // Writes the friction, base and total rows anew.
 pub(crate) fn write_body(sheet: Sheet, cells: &mut [f64])
     requires { Fits sheet (length cells.old) }
-    ensures { cells.new ≡ totalled sheet.settings.finishes sheet.settings.count (rows_written sheet.settings.count (row_of (contents_of sheet)) (body_rows sheet.settings.finishes) cells.old) }
+    ensures { cells.new ≡ totalled cell_plane sheet.settings.finishes sheet.settings.count (rows_written sheet.settings.count (row_of cell_plane (contents_of sheet)) (body_rows sheet.settings.finishes) cells.old) }
 {
     write_frictions(sheet, cells);
     write_nozzle_rows(sheet, cells);
 }
 
-// The rows of a design's parts; the other cells stay. It stops at the lowest place that cannot be built.
-fn part_rows(sheet: Sheet, cells: &mut [f64]) -> Result<(), AeroError>
-    requires { Fits sheet (length cells.old) }
-    ensures { Filled (trial (contents_of sheet)) (rows_written sheet.settings.count (row_of (contents_of sheet)) (from 0 sheet.design.count) cells.old) result cells.new }
+// The rows of a design's parts, with their marks; the other cells stay. It stops at the lowest place that cannot be built.
+fn part_rows(sheet: Sheet, cells: &mut [f64], marks: &mut [u8]) -> Result<(), AeroError>
+    requires { Fits sheet (length cells.old) × Fits sheet (length marks.old) }
+    ensures cells { Filled (trial (contents_of sheet)) (rows_written sheet.settings.count (row_of cell_plane (contents_of sheet)) (from 0 sheet.design.count) cells.old) result cells.new }
+    ensures marks { Filled (trial (contents_of sheet)) (rows_written sheet.settings.count (row_of mark_plane (contents_of sheet)) (from 0 sheet.design.count) marks.old) result marks.new }
 {
     let settings = sheet.settings;
     let design = sheet.design;
@@ -186,54 +189,61 @@ fn part_rows(sheet: Sheet, cells: &mut [f64]) -> Result<(), AeroError>
     for (place, part) in design.parts[..design.count].iter().enumerate() {
         let at = offset(layout, place);
         let end = at + count;
-        part::part_row(settings, fore, *part, &mut cells[at..end])?;
+        part::part_row(settings, fore, *part, &mut cells[at..end], &mut marks[at..end])?;
         fore = part.aft_diameter;
     }
     Ok(())
 }
 
-// All rows of a sheet, built from nothing into cells that hold +0.
-pub(crate) fn build_rows(sheet: Sheet, cells: &mut [f64]) -> Result<(), AeroError>
-    requires { Fits sheet (length cells.old) × (cells.old ≡ replicate (needed sheet.settings.finishes sheet.settings.count) 0·0) }
-    ensures { Filled (trial (contents_of sheet)) (build (contents_of sheet)) result cells.new }
+// All rows of a sheet, built from nothing into cells that hold +0 and marks that hold 0.
+pub(crate) fn build_rows(sheet: Sheet, cells: &mut [f64], marks: &mut [u8]) -> Result<(), AeroError>
+    requires { Fits sheet (length cells.old) × (cells.old ≡ replicate (needed sheet.settings.finishes sheet.settings.count) 0·0) × (marks.old ≡ replicate (needed sheet.settings.finishes sheet.settings.count) 0) }
+    ensures cells { Filled (trial (contents_of sheet)) (build cell_plane (contents_of sheet)) result cells.new }
+    ensures marks { Filled (trial (contents_of sheet)) (build mark_plane (contents_of sheet)) result marks.new }
 {
-    part_rows(sheet, cells)?;
+    part_rows(sheet, cells, marks)?;
     write_body(sheet, cells);
+    mark_body(sheet, marks);
     Ok(())
 }
 
-// The cells of one column, as a sheet that has that column alone.
+// One column, as a sheet that has that column alone.
 pub(crate) fn build_column(
     sheet: Sheet,
     column: usize,
     mach: f64,
     reynolds: f64,
     cells: &mut [f64],
+    marks: &mut [u8],
 ) -> Result<(), AeroError>
-    requires { ColumnAsked sheet column cells.old }
-    ensures { Filled (column_trial column (after (column_call column mach reynolds) sheet)) (tab (all_rows sheet.settings.finishes) (cell_of_column (after (column_call column mach reynolds) sheet) column)) result cells.new }
+    requires { ColumnAsked sheet column 0·0 cells.old × ColumnAsked sheet column 0 marks.old }
+    ensures cells { Filled (column_trial column (after (column_call column mach reynolds) sheet)) (tab (all_rows sheet.settings.finishes) (cell_of_column cell_plane (after (column_call column mach reynolds) sheet) column)) result cells.new }
+    ensures marks { Filled (column_trial column (after (column_call column mach reynolds) sheet)) (tab (all_rows sheet.settings.finishes) (cell_of_column mark_plane (after (column_call column mach reynolds) sheet) column)) result marks.new }
 {
     let mut one = sheet;
     one.settings = edits::one_column(sheet.settings, mach, reynolds);
-    build_rows(one, cells)
+    build_rows(one, cells, marks)
 }
 
-// Builds a sheet from nothing and writes all its rows, or leaves the cells as they are.
-pub(crate) fn write_all(sheet: Sheet, cells: &mut [f64]) -> Result<(), AeroError>
-    requires { Fits sheet (length cells.old) }
-    ensures { AllWritten (contents_of sheet) cells.old result cells.new }
+// Builds a sheet from nothing and writes all its rows, or leaves cells and marks as they are.
+pub(crate) fn write_all(sheet: Sheet, cells: &mut [f64], marks: &mut [u8]) -> Result<(), AeroError>
+    requires { Fits sheet (length cells.old) × Fits sheet (length marks.old) }
+    ensures cells { AllWritten cell_plane (contents_of sheet) cells.old result cells.new }
+    ensures marks { AllWritten mark_plane (contents_of sheet) marks.old result marks.new }
 {
     let mut scratch = [0.0; CELLS];
+    let mut scratch_marks = [0u8; CELLS];
     let all = layout_of(sheet.settings).cells();
-    build_rows(sheet, &mut scratch[..all])?;
+    build_rows(sheet, &mut scratch[..all], &mut scratch_marks[..all])?;
     write_row(0, &scratch[..all], cells);
+    write_row(0, &scratch_marks[..all], marks);
     Ok(())
 }
 
-// Writes a cell for each row into a column.
-pub(crate) fn write_column(column: usize, layout: Layout, values: &[f64], cells: &mut [f64])
+// Writes a cell, or a mark, for each row into a column.
+pub(crate) fn write_column<T: Copy>(column: usize, layout: Layout, values: &[T], cells: &mut [T])
     requires { (column < layout.columns) × (needed layout.finishes layout.columns ≤ length cells.old) × (length values.now ≡ all_rows layout.finishes) }
-    ensures { cells.new ≡ column_put column layout.finishes layout.columns values.now cells.old }
+    ensures { (d : T) → cells.new ≡ column_put d column layout.finishes layout.columns values.now cells.old }
 {
     // By place: of what is written through a zip nothing is known.
     for (row, value) in values.iter().enumerate() {

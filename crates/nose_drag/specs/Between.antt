@@ -79,21 +79,21 @@ midway = refl
 pub record Between (shape : NoseShape) (lower upper : Reference) (weight : Float) : Type 0 where
   pub curve : (f rest : Float) (curve : PressureDragCurve) → shaped shape f rest ≡ Ok curve → curve ≡ interpolated rest f lower upper weight
 
-abbrev built : Curve → PressureDragCurve
+abbrev pub built : Curve → PressureDragCurve
 built (Ok curve) = curve
 built (Err e) = step_curve
 
-none_built : {A : Type 0} {r : AeroError} {curve : PressureDragCurve} → Err r ≡ Ok curve → A
+pub none_built : {A : Type 0} {r : AeroError} {curve : PressureDragCurve} → Err r ≡ Ok curve → A
 none_built e = let z : ◌≡◌ {A = ℕ} 0 1 = cc in absurd (omega arith)
 
 -- a built curve is the shape's own, recorded
-record Made (shape : NoseShape) (f : Float) (curve : PressureDragCurve) : Type 0 where
+pub record Made (shape : NoseShape) (f : Float) (curve : PressureDragCurve) : Type 0 where
   pub rest : Float
   pub inner : PressureDragCurve
   pub own : shaped shape f rest ≡ Ok inner
   pub same : curve ≡ recorded shape f inner
 
-made : (shape : NoseShape) (f φ : Float) (curve : PressureDragCurve) → new_curve shape f φ ≡ Ok curve → (f ≈ 0·0) ≡ false → Made shape f curve
+pub made : (shape : NoseShape) (f φ : Float) (curve : PressureDragCurve) → new_curve shape f φ ≡ Ok curve → (f ≈ 0·0) ≡ false → Made shape f curve
 unfolding new_curve build
 made shape f φ curve e n = first (required (dimension f true) Fineness f) (joint_pressure_drag_coefficient φ) e
   where
@@ -113,11 +113,11 @@ made shape f φ curve e n = first (required (dimension f true) Fineness f) (join
     first (Ok _) (Ok rest) e = taken rest (shaped shape f rest) refl (rw n at e)
 
 -- what a record adds moves neither M_L nor the method
-record Same (a b : PressureDragCurve) : Type 0 where
+pub record Same (a b : PressureDragCurve) : Type 0 where
   pub method : a.transonic ≡ b.transonic
   pub low : a.mach_low ≡ b.mach_low
 
-record_method : (shape : NoseShape) (f : Float) (inner : PressureDragCurve) → Same (recorded shape f inner) inner
+pub record_method : (shape : NoseShape) (f : Float) (inner : PressureDragCurve) → Same (recorded shape f inner) inner
 unfolding recorded
 record_method shape f inner = by (0·0 ≺ f) _ (record { method = refl; low = refl })
   where

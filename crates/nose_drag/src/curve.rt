@@ -1,10 +1,11 @@
 // The cycle: a curve asks its transonic method, the method may ask a reference, and a reference may be a whole cone curve, which asks its
 // own method again. Each call carries a depth number that falls; `DEPTH` is enough for every curve, so no answer depends on it. The number stays, and with
 // it what each call requires of it: a falling depth is a rule of this port (docs/DECISIONS.md, 28).
-ghost use Rattle.std.specs.Prelude.{◌≡◌, ◌≤◌, suc};
+ghost use Rattle.std.specs.Prelude.{◌≡◌, ◌≤◌, false, suc};
 ghost use Rattle.nose_drag.specs.Forms.{sin_half_angle};
 ghost use Rattle.nose_drag.specs.Methods.{reference_at, method_at};
-ghost use Rattle.nose_drag.specs.Curves.{from_transonic, curve_at, step_curve, coefficient_of};
+ghost use Rattle.nose_drag.specs.Curves.{from_transonic, curve_at, step_curve};
+ghost use Rattle.nose_drag.specs.Beyond.{reference_beyond, method_beyond, drag_of};
 ghost use Rattle.nose_drag.specs.Depth.{depth_of_reference, depth_of_transonic};
 ghost use Rattle.nose_drag.specs.declared.curve.Transonic.TheVariants.{Cone};
 
@@ -15,7 +16,7 @@ use crate::scaling::{scaled, scaled_value};
 use aero_error::AeroError;
 use drag::{check_mach_any, stagnation_ratio};
 use shapes::NoseShape;
-use stoney::{StoneyNose, ValueAndSlope};
+use stoney::{Reading, StoneyNose, ValueAndSlope};
 
 // As deep as the cycle goes: a curve, its method, a reference, that reference's cone curve, and that one's method.
 pub(crate) const DEPTH: u8 = 4;
@@ -71,6 +72,35 @@ pub struct PressureDragCurve {
     pub(crate) transonic: Transonic,
 }
 
+// A coefficient, and whether any table that was read for it was read beyond its last point.
+#[derive(Clone, Copy, Debug, PartialEq)]
+pub struct PressureDrag {
+    pub value: f64,
+    pub beyond: bool,
+}
+
+impl PressureDrag {
+    // From a formula: no table is read.
+    fn computed(value: f64) -> PressureDrag
+        ensures { result ≡ record { value = value; beyond = false } }
+    {
+        PressureDrag {
+            value,
+            beyond: false,
+        }
+    }
+
+    // From a table.
+    fn read(reading: Reading) -> PressureDrag
+        ensures { result ≡ record { value = reading.at.value; beyond = reading.beyond } }
+    {
+        PressureDrag {
+            value: reading.at.value,
+            beyond: reading.beyond,
+        }
+    }
+}
+
 impl Reference {
     // The 3:1 cone, an end of the power and parabolic series, at rest 0.8 sin² ε with tan ε = 1/6.
     pub(crate) const CONE_3: Reference = Reference::Cone {
@@ -96,33 +126,33 @@ impl Reference {
                 let curve = PressureDragCurve::from_transonic(rest, cone, 1.0, depth - 1);
                 curve.value_and_slope(mach, depth - 1)
             }
-            Reference::Stoney(nose) => nose.value_and_slope(mach),
+            Reference::Stoney(nose) => nose.value_and_slope(mach).at,
         }
     }
 
-    // The value alone. From Mach 1 a cone's whole curve is its method, so that only below a curve is made and asked, one call deeper.
+    // The value alone, and its mark. From Mach 1 a cone's whole curve is its method, so that only below a curve is made and asked, one call deeper.
     // By `value_and_slope` in its place a cone's coefficient above Mach 1 takes 1.06 times as long, a parabolic series' 1.05 (docs/DECISIONS.md, 77).
     #[tactic(auto, unfolding(crate::specs::Forms::blunt), using(crate::specs::Values::whole_cone_above, crate::proofs::Cycle::cone_reference, crate::proofs::Cycle::kept_method))]
-    fn value(self, mach: f64, depth: u8) -> f64
+    fn drag(self, mach: f64, depth: u8) -> PressureDrag
         requires { depth_of_reference self ≤ depth }
-        ensures { result ≡ (reference_at self mach).value }
+        ensures { result ≡ record { value = (reference_at self mach).value; beyond = reference_beyond self mach } }
     {
         match self {
-            Reference::Blunt => 0.85 * stagnation_ratio(mach),
+            Reference::Blunt => PressureDrag::computed(0.85 * stagnation_ratio(mach)),
             Reference::Cone {
                 fineness_ratio,
                 factor,
                 rest,
             } => {
-                if mach < 1.0 {
+                PressureDrag::computed(if mach < 1.0 {
                     let cone = Transonic::cone(fineness_ratio, factor);
                     let curve = PressureDragCurve::from_transonic(rest, cone, 1.0, depth - 1);
                     curve.value_and_slope(mach, depth - 1).value
                 } else {
                     cone_method(sin_half_angle(fineness_ratio), factor, mach).value
-                }
+                })
             }
-            Reference::Stoney(nose) => nose.value_and_slope(mach).value,
+            Reference::Stoney(nose) => PressureDrag::read(nose.value_and_slope(mach)),
         }
     }
 }
@@ -162,37 +192,40 @@ impl Transonic {
             Transonic::Ellipsoid {
                 fineness_ratio,
                 rest,
-            } => ellipsoid(fineness_ratio, rest, mach),
+            } => ellipsoid(fineness_ratio, rest, mach).at,
         }
     }
 
-    // The value alone, which is all that a coefficient takes: each case hands on its numbers, and no method is copied.
+    // The value alone and its mark, which is all that a coefficient takes: each case hands on its numbers, and no method is copied.
     // By `value_and_slope` in its place a step's coefficient above Mach 1 takes 1.15 times as long, a parabolic series' 1.06 (docs/DECISIONS.md, 77).
     #[tactic(auto, unfolding(crate::specs::Forms::blunt), using(crate::specs::Values::value_of_scaled))]
-    fn value(self, mach: f64, depth: u8) -> f64
+    fn drag(self, mach: f64, depth: u8) -> PressureDrag
         requires { depth_of_transonic self ≤ depth }
-        ensures { result ≡ (method_at self mach).value }
+        ensures { result ≡ record { value = (method_at self mach).value; beyond = method_beyond self mach } }
     {
         match self {
-            Transonic::Blunt => 0.85 * stagnation_ratio(mach),
+            Transonic::Blunt => PressureDrag::computed(0.85 * stagnation_ratio(mach)),
             Transonic::Cone {
                 sin_half_angle,
                 factor,
-            } => cone_method(sin_half_angle, factor, mach).value,
+            } => PressureDrag::computed(cone_method(sin_half_angle, factor, mach).value),
             Transonic::Scaled {
                 lower,
                 upper,
                 weight,
                 exponent,
             } => {
-                let lo = lower.value(mach, depth - 1);
-                let hi = upper.value(mach, depth - 1);
-                scaled_value(lo, hi, weight, exponent, mach)
+                let lo = lower.drag(mach, depth - 1);
+                let hi = upper.drag(mach, depth - 1);
+                PressureDrag {
+                    value: scaled_value(lo.value, hi.value, weight, exponent, mach),
+                    beyond: lo.beyond || hi.beyond,
+                }
             }
             Transonic::Ellipsoid {
                 fineness_ratio,
                 rest,
-            } => ellipsoid(fineness_ratio, rest, mach).value,
+            } => PressureDrag::read(ellipsoid(fineness_ratio, rest, mach)),
         }
     }
 }
@@ -262,16 +295,18 @@ impl PressureDragCurve {
         self.mach_low
     }
 
-    // The coefficient at `mach`, on the increase in area.
-    #[tactic(auto, unfolding(crate::specs::Curves::coefficient_of, crate::specs::Below::fitted))]
-    pub fn coefficient(self, mach: f64) -> Result<f64, AeroError>
-        ensures { result ≡ coefficient_of self mach }
+    // The coefficient at `mach`, on the increase in area, and whether any table that is read for it is read beyond its last point. What `new` reads
+    // doesn't count, and below M_L no table is read.
+    #[tactic(auto, unfolding(crate::specs::Beyond::drag_of, crate::specs::Beyond::curve_beyond, crate::specs::Curves::coefficient_of, crate::specs::Below::fitted))]
+    pub fn coefficient(self, mach: f64) -> Result<PressureDrag, AeroError>
+        ensures { result ≡ drag_of self mach }
     {
         check_mach_any(mach)?;
         if mach < self.mach_low {
-            Ok(self.rest + self.fit.eval(mach, self.mach_low).value)
+            let rise = self.fit.eval(mach, self.mach_low);
+            Ok(PressureDrag::computed(self.rest + rise.value))
         } else {
-            Ok(self.transonic.value(mach, DEPTH - 1))
+            Ok(self.transonic.drag(mach, DEPTH - 1))
         }
     }
 }

@@ -1,12 +1,15 @@
 // The ellipsoid at every Mach number: Hoerner's measured heads below Mach 0.8, Stoney's measured curve from its first point on.
 ghost use Rattle.std.specs.Prelude.{◌≡◌};
+ghost use Rattle.stoney.specs.declared.StoneyNose.TheVariants.{Ellipsoid};
+ghost use Rattle.stoney.specs.Lookup.{beyond};
+ghost use Rattle.nose_drag.specs.Beyond.{ellipsoid_beyond};
 ghost use Rattle.nose_drag.specs.Methods.{ellipsoid_low_speed, ellipsoid_at_least_rest, ellipsoid_measured, ellipsoid as ellipsoid_of, ellipsoid_subsonic_pressure_drag};
 
 use crate::cone::blunt;
 use crate::scaling::{fineness_exponent, fineness_scaled, scaled};
 use aero_error::{AeroError, Quantity, check_dimension, require};
 use elementary::max;
-use stoney::{SUBSONIC_MACH_LIMIT, StoneyNose, ValueAndSlope};
+use stoney::{Reading, SUBSONIC_MACH_LIMIT, StoneyNose, ValueAndSlope};
 
 // The forebody pressure drag of a hemispherical head on a cylinder at low speed (Hoerner 1965 p. 3-12, fig. 20).
 pub const HEMISPHERE_FOREBODY_PRESSURE_DRAG: f64 = 0.01;
@@ -59,22 +62,34 @@ fn ellipsoid_at_least_rest(fineness_ratio: f64, rest: f64, mach: f64) -> ValueAn
     }
 }
 
-// Stoney's ellipsoid scaled by eq. B.9.
+// Stoney's ellipsoid scaled by eq. B.9, and whether it is read beyond its last point.
 #[tactic(auto, unfolding(crate::specs::Methods::ellipsoid_measured))]
-fn ellipsoid_measured(fineness_ratio: f64, mach: f64) -> ValueAndSlope
-    ensures { result ≡ ellipsoid_measured fineness_ratio mach }
+fn ellipsoid_measured(fineness_ratio: f64, mach: f64) -> Reading
+    ensures { result ≡ record { at = ellipsoid_measured fineness_ratio mach; beyond = beyond Ellipsoid mach } }
 {
     let stoney = StoneyNose::Ellipsoid.value_and_slope(mach);
-    scaled(stoney, stoney, 0.0, fineness_exponent(fineness_ratio), mach)
+    Reading {
+        at: scaled(
+            stoney.at,
+            stoney.at,
+            0.0,
+            fineness_exponent(fineness_ratio),
+            mach,
+        ),
+        beyond: stoney.beyond,
+    }
 }
 
-// An ellipsoid at every Mach number: below 0.8, from Stoney's first point on, and a straight line between.
-#[tactic(auto, unfolding(crate::specs::Methods::ellipsoid))]
-pub(crate) fn ellipsoid(fineness_ratio: f64, rest: f64, mach: f64) -> ValueAndSlope
-    ensures { result ≡ ellipsoid_of fineness_ratio rest mach }
+// An ellipsoid at every Mach number: below 0.8, from Stoney's first point on, and a straight line between, which reads the table at that point.
+#[tactic(auto, unfolding(crate::specs::Methods::ellipsoid, crate::specs::Beyond::ellipsoid_beyond))]
+pub(crate) fn ellipsoid(fineness_ratio: f64, rest: f64, mach: f64) -> Reading
+    ensures { result ≡ record { at = ellipsoid_of fineness_ratio rest mach; beyond = ellipsoid_beyond mach } }
 {
     if mach < SUBSONIC_MACH_LIMIT {
-        return ellipsoid_at_least_rest(fineness_ratio, rest, mach);
+        return Reading {
+            at: ellipsoid_at_least_rest(fineness_ratio, rest, mach),
+            beyond: false,
+        };
     }
     let first = StoneyNose::Ellipsoid.first_mach();
     if mach >= first {
@@ -82,10 +97,13 @@ pub(crate) fn ellipsoid(fineness_ratio: f64, rest: f64, mach: f64) -> ValueAndSl
     }
     let low = ellipsoid_at_least_rest(fineness_ratio, rest, SUBSONIC_MACH_LIMIT);
     let high = ellipsoid_measured(fineness_ratio, first);
-    let slope = (high.value - low.value) / (first - SUBSONIC_MACH_LIMIT);
-    ValueAndSlope {
-        value: low.value + slope * (mach - SUBSONIC_MACH_LIMIT),
-        slope,
+    let slope = (high.at.value - low.value) / (first - SUBSONIC_MACH_LIMIT);
+    Reading {
+        at: ValueAndSlope {
+            value: low.value + slope * (mach - SUBSONIC_MACH_LIMIT),
+            slope,
+        },
+        beyond: high.beyond,
     }
 }
 

@@ -11,7 +11,7 @@ mod scaling;
 
 pub use builder::takes_cone_formula;
 pub use cone::{CONE_SUPERSONIC_MACH, ogive_pressure_drag_factor};
-pub use curve::{PressureDragCurve, Reference, Transonic};
+pub use curve::{PressureDrag, PressureDragCurve, Reference, Transonic};
 pub use ellipsoid::{
     HEMISPHERE_FOREBODY_PRESSURE_DRAG, ROUND_HEAD_FOREBODY_PRESSURE_DRAG,
     ellipsoid_subsonic_pressure_drag,

@@ -1,8 +1,8 @@
 // Replays lists of calls on a sheet from standard input, calling the library `cobalnis` as a program in C does, and prints how many
-// calls agree: status, value refused, and the state after the call, which is the sheet's words and every cell. The stored lines are
-// those of a model of the sheet (docs/REFERENCE.md, Sheet). A line's first eight words are the arguments, then come status, value
-// refused and the state's number. Some lines change the state by hand, so that a call meets any sheet and any cells; they are no
-// calls and aren't counted, unless they don't agree.
+// calls agree: status, value refused, and the state after the call, which is the sheet's words, every cell and every mark. The stored
+// lines are those of a model of the sheet (docs/REFERENCE.md, Sheet). A line's first eight words are the arguments, then come status,
+// value refused and the state's number. Some lines change the state by hand, so that a call meets any sheet and any buffers; they are
+// no calls and aren't counted, unless they don't agree.
 //
 //     o open                      no arguments
 //     i insert, r replace         place, the part's first six words
@@ -16,9 +16,12 @@
 //     l cells lent                how many
 //     f all cells                 the first one's bits, and what each further one adds
 //     p one cell                  its place, its bits
+//     g all marks                 how many are lent, the first one's byte, and what each further one adds
+//     h one mark                  its place, its byte
 //
 // A `w` line speaks of a sheet of one finish: the words are D, its roughness, B, the number of columns, and from the Machs on those
-// of any sheet. Before the first `e` line there is one finish.
+// of any sheet. Before the first `e` line there is one finish. Before the first `g` line all marks are 0, all are lent, and the state's
+// number leaves them out.
 //
 // The list, `stdin` beside this folder, is made in compare/:
 //     cargo run --release --offline --bin sheet_list > ../crates/sheet_vectors/stdin
@@ -90,7 +93,7 @@ fn with_finishes(h: u64, words: &[u64; SHEET_WORDS]) -> u64 {
 // Cells of the largest sheet of one finish, and a row more.
 const CELLS_OF_ONE: usize = (PARTS + 4) * COLUMNS;
 
-// The cells that count: with one finish these, with any other number all.
+// The cells that count, and the marks: with one finish these, with any other number all.
 fn cells_of(words: &[u64; SHEET_WORDS]) -> usize {
     if words[FINISHES_AT] == 1 {
         CELLS_OF_ONE
@@ -154,6 +157,8 @@ enum Change {
     Lent,
     Fill,
     Poke,
+    Marks,
+    PokeMark,
 }
 
 #[derive(Clone, Copy)]
@@ -178,6 +183,8 @@ impl Asked {
             b'l' => Asked::Change(Change::Lent),
             b'f' => Asked::Change(Change::Fill),
             b'p' => Asked::Change(Change::Poke),
+            b'g' => Asked::Change(Change::Marks),
+            b'h' => Asked::Change(Change::PokeMark),
             _ => return None,
         })
     }
@@ -203,55 +210,67 @@ fn part_at(line: &[u8], roughness: Roughness) -> [u64; PART_WORDS] {
     ]
 }
 
+// A mark's byte: a word's low one.
+fn byte_at(line: &[u8], which: u8) -> u8 {
+    (word_at(line, which) % 256) as u8
+}
+
 // ---- the state
 
-// Room for one row of cells too many.
+// Room for one row of cells too many, and of marks.
 const ROOM: usize = CELLS + COLUMNS;
 
-// The sheet's words, all cells, how many of these are lent, the last two words of the parts given, and what is counted so far. How many are lent changes
-// from line to line, more than there are too, so it is no slice.
+// The sheet's words, all cells and all marks, how many of these are lent, whether the marks count in the state's number, the last two words of the parts
+// given, and what is counted so far. How many are lent changes from line to line, more than there are too, so it is no slice.
 #[derive(Drop)]
 struct State {
     words: [u64; SHEET_WORDS],
     cells: [f64; ROOM],
+    marks: [u8; ROOM],
     lent: usize,
+    marks_lent: usize,
+    marked: bool,
     roughness: Roughness,
     counts: Counts,
 }
 
 impl State {
-    // A sheet of zeros but for one finish, and no cell lent.
+    // A sheet of zeros but for one finish, no cell lent, and all marks.
     fn blank() -> State {
         let mut words = [0; SHEET_WORDS];
         words[FINISHES_AT] = 1;
         State {
             words,
             cells: [0.0; ROOM],
+            marks: [0; ROOM],
             lent: 0,
+            marks_lent: ROOM,
+            marked: false,
             roughness: Roughness { flag: 0, bits: 0 },
             counts: Counts::none(),
         }
     }
 
-    // The status and the value refused of a call on the cells that are lent; nothing where there are not so many.
+    // The status and the value refused of a call on the cells and the marks that are lent; nothing where there are not so many.
     fn called(&mut self, call: Call, line: &[u8]) -> Option<(u32, u64)> {
         let first = word_at(line, 0);
         let at = first as usize;
         let part = part_at(line, self.roughness);
         let words = &mut self.words;
         let cells = self.cells.get_mut(..self.lent)?;
+        let marks = self.marks.get_mut(..self.marks_lent)?;
         let mut refused = 0u64;
         let status = match call {
-            Call::Open => cobalnis_open(words, cells, &mut refused),
-            Call::Insert => cobalnis_insert(words, at, &part, cells, &mut refused),
-            Call::Replace => cobalnis_replace(words, at, &part, cells, &mut refused),
-            Call::Remove => cobalnis_remove(words, at, cells, &mut refused),
-            Call::Ignite => cobalnis_ignite(words, from_bits(first), cells, &mut refused),
-            Call::Burnout => cobalnis_burnout(words, cells, &mut refused),
+            Call::Open => cobalnis_open(words, cells, marks, &mut refused),
+            Call::Insert => cobalnis_insert(words, at, &part, cells, marks, &mut refused),
+            Call::Replace => cobalnis_replace(words, at, &part, cells, marks, &mut refused),
+            Call::Remove => cobalnis_remove(words, at, cells, marks, &mut refused),
+            Call::Ignite => cobalnis_ignite(words, from_bits(first), cells, marks, &mut refused),
+            Call::Burnout => cobalnis_burnout(words, cells, marks, &mut refused),
             Call::SetColumn => {
                 let mach = from_bits(word_at(line, 1));
                 let reynolds = from_bits(word_at(line, 2));
-                cobalnis_set_column(words, at, mach, reynolds, cells, &mut refused)
+                cobalnis_set_column(words, at, mach, reynolds, cells, marks, &mut refused)
             }
         };
         Some((status, refused))
@@ -285,6 +304,18 @@ impl State {
         }
     }
 
+    // How many marks are lent; mark k gets the low byte of first + k × step. From now on the marks count.
+    fn put_marks(&mut self, line: &[u8]) {
+        self.marks_lent = word_at(line, 0) as usize;
+        self.marked = true;
+        let mut byte = byte_at(line, 1);
+        let step = byte_at(line, 2);
+        for mark in &mut self.marks {
+            *mark = byte;
+            byte = byte.wrapping_add(step);
+        }
+    }
+
     // A change by hand.
     fn change(&mut self, change: Change, line: &[u8]) {
         let first = word_at(line, 0);
@@ -305,7 +336,21 @@ impl State {
                     *cell = from_bits(second);
                 }
             }
+            Change::Marks => self.put_marks(line),
+            Change::PokeMark => {
+                if let Some(mark) = self.marks.get_mut(first as usize) {
+                    *mark = byte_at(line, 1);
+                }
+            }
         }
+    }
+
+    // The number of the words, the cells and, where they count, as many marks.
+    fn number(&self) -> u64 {
+        let h = number_of(&self.words, &self.cells);
+        let counted = if self.marked { cells_of(&self.words) } else { 0 };
+        let marks = self.marks.iter().take(counted);
+        marks.fold(h, |h, mark| mixed(h, u64::from(*mark)))
     }
 
     // Whether the line can be read and ends with this status, this value and the state's number.
@@ -313,7 +358,7 @@ impl State {
         is_line(line)
             && word_at(line, 8) == status as u64
             && word_at(line, 9) == refused
-            && word_at(line, 10) == number_of(&self.words, &self.cells)
+            && word_at(line, 10) == self.number()
     }
 }
 

@@ -13,6 +13,7 @@
 
 mod curve;
 mod drag;
+mod mark;
 mod nose;
 mod steps;
 
@@ -64,22 +65,40 @@ impl Answers {
     /// The lookup is not asked at NaN: there the original stops with an index out of range, and its
     /// callers never do it.
     pub fn nose_lookup(&mut self, nose: usize, mach: f64) {
-        let (status, words) = mirror::nose_lookup(nose as u32, mach);
-        self.line('l', &[nose as u64, mach.to_bits()], status, &words);
+        let (status, [value, slope, first, _]) = mirror::nose_lookup(nose as u32, mach);
+        let arguments = [nose as u64, mach.to_bits()];
+        self.line('l', &arguments, status, &[value, slope, first]);
+    }
+
+    /// The mark of such a lookup.
+    pub fn nose_mark(&mut self, nose: usize, mach: f64) {
+        let (status, [.., mark]) = mirror::nose_lookup(nose as u32, mach);
+        self.line('a', &[nose as u64, mach.to_bits()], status, &[mark]);
     }
 
     pub fn curve(&mut self, shape: u64, arguments: [f64; 3], mach: f64) {
         let mut out = [0];
-        let (status, about) = mirror::curve(shape, arguments, &[mach], &mut out);
-        let [parameter, fineness, angle] = arguments.map(f64::to_bits);
-        let arguments = [shape, parameter, fineness, angle, mach.to_bits()];
+        let (status, about) = mirror::curve(shape, arguments, &[mach], &mut out, &mut [0]);
         self.line(
             'c',
-            &arguments,
+            &curve_words(shape, arguments, mach),
             status,
             &[out[0], about[0], about[1], about[2]],
         );
     }
+
+    /// The mark of a coefficient, 0 where it is refused.
+    pub fn curve_mark(&mut self, shape: u64, arguments: [f64; 3], mach: f64) {
+        let mut mark = [0];
+        let (status, _) = mirror::curve(shape, arguments, &[mach], &mut [0], &mut mark);
+        let words = curve_words(shape, arguments, mach);
+        self.line('b', &words, status, &mark.map(u64::from));
+    }
+}
+
+fn curve_words(shape: u64, arguments: [f64; 3], mach: f64) -> [u64; 5] {
+    let [parameter, fineness, angle] = arguments.map(f64::to_bits);
+    [shape, parameter, fineness, angle, mach.to_bits()]
 }
 
 fn main() {
@@ -92,5 +111,7 @@ fn main() {
     answers.random = Random::new(0x5eed_0004);
     nose::all(&mut answers);
     curve::all(&mut answers);
+    answers.random = Random::new(0x5eed_0011);
+    mark::all(&mut answers);
     answers.list.finish();
 }

@@ -3,7 +3,7 @@
 use cobalnis::words::PART_WORDS;
 use compare::mirror::part_words;
 use compare::model::{burnout, ignite, insert, open, remove, replace, set_column};
-use compare::model::{Column, Part, Sheet, COLUMNS, FINISHES};
+use compare::model::{rows, total_row, Column, Lent, Part, Settings, Sheet, COLUMNS, FINISHES};
 use compare::refusals::Answer;
 
 use crate::Play;
@@ -109,7 +109,7 @@ impl Play {
 
     pub fn fill(&mut self, first: u64, step: u64) {
         let mut bits = first;
-        for cell in &mut self.cells {
+        for cell in &mut self.held.cells {
             *cell = f64::from_bits(bits);
             bits = bits.wrapping_add(step);
         }
@@ -117,11 +117,41 @@ impl Play {
     }
 
     pub fn poke(&mut self, at: usize, value: f64) {
-        self.cells[at] = value;
+        self.held.cells[at] = value;
         self.line('p', &[at as u64, value.to_bits()], Answer::accepted(0));
     }
 
+    /// So many marks lent; the first one's byte, and what each further one adds. From here on marks
+    /// count.
+    pub fn marks(&mut self, mark_count: usize, first: u8, step: u8) {
+        let mut byte = first;
+        for mark in &mut self.held.marks {
+            *mark = byte;
+            byte = byte.wrapping_add(step);
+        }
+        (self.mark_count, self.marked) = (mark_count, true);
+        let args = [mark_count as u64, first.into(), step.into()];
+        self.line('g', &args, Answer::accepted(0));
+    }
+
+    pub fn poke_mark(&mut self, at: usize, mark: u8) {
+        self.held.marks[at] = mark;
+        self.line('h', &[at as u64, mark.into()], Answer::accepted(0));
+    }
+
     // ---- calls
+
+    fn lent(&mut self) -> Lent<'_> {
+        self.held.lend_first(self.cell_count, self.mark_count)
+    }
+
+    /// The marks of all totals.
+    fn total_marks(&self) -> &[u8] {
+        let Settings {
+            finishes, count, ..
+        } = self.sheet.settings;
+        &self.held.marks[total_row(finishes) * count..rows(finishes) * count]
+    }
 
     /// A refused call leaves the words as they were, a refused open too.
     fn handed(&mut self, tag: char, args: &[u64], (answer, sheet): (Answer, Sheet)) -> Answer {
@@ -129,6 +159,7 @@ impl Play {
             self.sheet = sheet;
             self.burning += usize::from(sheet.nozzle_diameter > 0.0);
             self.several += usize::from(sheet.settings.finishes > 1);
+            self.beyond += usize::from(self.marked && self.total_marks().contains(&1));
         }
         self.calls += 1;
         self.line(tag, args, answer);
@@ -136,7 +167,8 @@ impl Play {
     }
 
     pub fn open(&mut self) -> Answer {
-        let back = open(&self.sheet.settings, &mut self.cells[..self.cell_count]);
+        let settings = self.sheet.settings;
+        let back = open(&settings, self.lent());
         self.handed('o', &[], back)
     }
 
@@ -149,44 +181,40 @@ impl Play {
 
     pub fn replace(&mut self, place: usize, part: Part) -> Answer {
         self.give(&part);
-        let back = replace(
-            &self.sheet,
-            place,
-            &part,
-            &mut self.cells[..self.cell_count],
-        );
+        let sheet = self.sheet;
+        let back = replace(&sheet, place, &part, self.lent());
         self.put('r', place, &part, back)
     }
 
     pub fn insert(&mut self, place: usize, part: Part) -> Answer {
         self.give(&part);
-        let back = insert(
-            &self.sheet,
-            place,
-            &part,
-            &mut self.cells[..self.cell_count],
-        );
+        let sheet = self.sheet;
+        let back = insert(&sheet, place, &part, self.lent());
         self.put('i', place, &part, back)
     }
 
     pub fn remove(&mut self, place: usize) -> Answer {
-        let back = remove(&self.sheet, place, &mut self.cells[..self.cell_count]);
+        let sheet = self.sheet;
+        let back = remove(&sheet, place, self.lent());
         self.handed('m', &[place as u64], back)
     }
 
     pub fn set_column(&mut self, at: usize, column: Column) -> Answer {
-        let back = set_column(&self.sheet, at, column, &mut self.cells[..self.cell_count]);
+        let sheet = self.sheet;
+        let back = set_column(&sheet, at, column, self.lent());
         let args = [at as u64, column.mach.to_bits(), column.reynolds.to_bits()];
         self.handed('t', &args, back)
     }
 
     pub fn ignite(&mut self, n: f64) -> Answer {
-        let back = ignite(&self.sheet, n, &mut self.cells[..self.cell_count]);
+        let sheet = self.sheet;
+        let back = ignite(&sheet, n, self.lent());
         self.handed('n', &[n.to_bits()], back)
     }
 
     pub fn burnout(&mut self) -> Answer {
-        let back = burnout(&self.sheet, &mut self.cells[..self.cell_count]);
+        let sheet = self.sheet;
+        let back = burnout(&sheet, self.lent());
         self.handed('b', &[], back)
     }
 }

@@ -45,6 +45,9 @@ impl Play {
             _ => enough + self.args.below(room - enough + 1),
         };
         self.lend(cell_count);
+        if self.marked {
+            self.any_marks();
+        }
         assert_eq!(self.open().refusal, 0);
     }
 
@@ -215,7 +218,8 @@ impl Play {
         }
     }
 
-    /// Calls of all kinds after an accepted open, with cells changed in between.
+    /// Calls of all kinds after an accepted open, with cells changed in between, and marks where they
+    /// count.
     pub fn list(&mut self, columns: usize, calls: usize, bad: u64, odd: u64) {
         self.opened(columns);
         for _ in 0..calls {
@@ -225,12 +229,21 @@ impl Play {
                 let value = self.args.random.pick(&list);
                 self.poke(at, value);
             }
+            if self.marked && columns > 0 && self.args.one_in(8) {
+                let at = self.args.below(self.sheet.settings.cells());
+                let mark = [0, 1, 2, 128, 255][self.args.below(5)];
+                self.poke_mark(at, mark);
+            }
             if self.args.one_in(40) {
                 self.broken_sheet();
             }
             self.any_call(bad, odd);
-            if self.cell_count < self.sheet.settings.cells() {
-                self.lend(self.sheet.settings.cells());
+            let enough = self.sheet.settings.cells();
+            if self.cell_count < enough {
+                self.lend(enough);
+            }
+            if self.mark_count < enough {
+                self.any_marks();
             }
         }
     }

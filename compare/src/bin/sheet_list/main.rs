@@ -8,13 +8,13 @@
 //! after the line. The tags and their arguments are listed at the top of
 //! crates/sheet_vectors/src/main.rt.
 //!
-//! The state is a sheet's words and a buffer of cells, one row more than the
-//! largest sheet has, all zeros before the first line but for one finish. A call
-//! takes the words and the first so many cells of the buffer. Lines that change the state by hand are
-//! accepted always, so that a call meets any sheet and any cells. A line has no room for all words of
-//! a part: the last two, its roughness, are those of the last `k` line before, at first zeros. A `w`
-//! line has its words where a sheet of one finish alone would: D, its roughness, B, the number of
-//! columns, Machs and so on; the other finishes have the `e` line.
+//! The state is a sheet's words and two buffers, of cells and of marks, each one row more than the
+//! largest sheet has, all zeros before the first line but for one finish. A call takes the words, the
+//! first so many cells and the first so many marks, at first all marks. Lines that change the state by
+//! hand are accepted always, so that a call meets any sheet and any buffers. A line has no room for
+//! all words of a part: the last two, its roughness, are those of the last `k` line before, at first
+//! zeros. A `w` line has its words where a sheet of one finish alone would: D, its roughness, B, the
+//! number of columns, Machs and so on; the other finishes have the `e` line.
 //!
 //! The state's number h is made of 64-bit words x, one after the other, from h = 0xcbf29ce484222325:
 //! h is h xor x, turned left by 23 bits, times 0x100000001b3 without carry out of 64 bits. The
@@ -29,6 +29,7 @@ mod calls;
 mod cases;
 mod finishes;
 mod lists;
+mod marks;
 
 use std::io::{BufWriter, StdoutLock, Write};
 
@@ -36,11 +37,11 @@ use compare::answer_bits;
 use compare::arguments::Arguments;
 use compare::list::line;
 use compare::mirror::{part_words, status};
-use compare::model::{rows, Column, Design, Part, Settings, Sheet};
+use compare::model::{rows, Buffers, Column, Design, Part, Settings, Sheet};
 use compare::model::{COLUMNS, FINISHES, NO_PART, PLACES};
 use compare::refusals::Answer;
 
-/// Cells of the largest sheet of so many finishes, and a row more.
+/// Cells, and marks, of the largest sheet of so many finishes, and a row more.
 const fn room(finishes: usize) -> usize {
     (rows(finishes) + 1) * COLUMNS
 }
@@ -57,8 +58,12 @@ struct Play {
     out: BufWriter<StdoutLock<'static>>,
     args: Arguments,
     sheet: Sheet,
-    cells: Vec<f64>,
+    held: Buffers,
+    /// How many cells and how many marks are lent.
     cell_count: usize,
+    mark_count: usize,
+    /// Whether the state's number counts marks.
+    marked: bool,
     /// With how many finishes `opened` opens a sheet; none: one, without a line for it.
     finishes: Option<usize>,
     /// Words 6 and 7 of the part in `i` and `r` lines.
@@ -71,9 +76,49 @@ struct Play {
     burning: usize,
     /// Accepted calls that left a sheet of more than one finish.
     several: usize,
+    /// Accepted calls that left a mark in a total, since marks count.
+    beyond: usize,
 }
 
 impl Play {
+    /// The state before the first line.
+    fn blank() -> Self {
+        Self {
+            out: BufWriter::new(std::io::stdout().lock()),
+            args: Arguments::new(0x5eed_0005),
+            sheet: Sheet {
+                settings: Settings {
+                    reference_diameter: 0.0,
+                    finishes: 1,
+                    roughnesses: [0.0; FINISHES],
+                    body_fineness: 0.0,
+                    count: 0,
+                    columns: [Column {
+                        mach: 0.0,
+                        reynolds: 0.0,
+                    }; COLUMNS],
+                },
+                nozzle_diameter: 0.0,
+                design: Design {
+                    count: 0,
+                    parts: [NO_PART; PLACES],
+                },
+            },
+            held: Buffers::new(room(FINISHES)),
+            cell_count: 0,
+            mark_count: room(FINISHES),
+            marked: false,
+            finishes: None,
+            given: [0; 2],
+            calls: 0,
+            parts: 0,
+            own: 0,
+            burning: 0,
+            several: 0,
+            beyond: 0,
+        }
+    }
+
     fn number(&self) -> u64 {
         let mut h = 0xcbf2_9ce4_8422_2325;
         let settings = &self.sheet.settings;
@@ -94,16 +139,21 @@ impl Play {
                 h = mixed(h, word);
             }
         }
-        let mut cells = &self.cells[..room(1)];
+        let mut counted = room(1);
         if settings.finishes != 1 {
-            cells = &self.cells;
+            counted = room(FINISHES);
             h = mixed(h, settings.finishes as u64);
             for &roughness in &settings.roughnesses[..settings.finishes.min(FINISHES)] {
                 h = mixed(h, answer_bits(roughness));
             }
         }
-        for &cell in cells {
+        for &cell in &self.held.cells[..counted] {
             h = mixed(h, answer_bits(cell));
+        }
+        if self.marked {
+            for &mark in &self.held.marks[..counted] {
+                h = mixed(h, mark.into());
+            }
         }
         h
     }
@@ -121,37 +171,7 @@ impl Play {
 }
 
 fn main() {
-    let mut play = Play {
-        out: BufWriter::new(std::io::stdout().lock()),
-        args: Arguments::new(0x5eed_0005),
-        sheet: Sheet {
-            settings: Settings {
-                reference_diameter: 0.0,
-                finishes: 1,
-                roughnesses: [0.0; FINISHES],
-                body_fineness: 0.0,
-                count: 0,
-                columns: [Column {
-                    mach: 0.0,
-                    reynolds: 0.0,
-                }; COLUMNS],
-            },
-            nozzle_diameter: 0.0,
-            design: Design {
-                count: 0,
-                parts: [NO_PART; PLACES],
-            },
-        },
-        cells: vec![0.0; room(FINISHES)],
-        cell_count: 0,
-        finishes: None,
-        given: [0; 2],
-        calls: 0,
-        parts: 0,
-        own: 0,
-        burning: 0,
-        several: 0,
-    };
+    let mut play = Play::blank();
     // The sheet of docs/REFERENCE.md, Example.
     play.settings(1.0, 0.0, 1.0, 1);
     play.lend(rows(1));
@@ -185,11 +205,13 @@ fn main() {
         play.full(columns);
     }
     play.by_finish();
+    play.beyond_the_tables();
     let (own, parts) = (play.own, play.parts);
     eprintln!(
         "{} calls, {} left a burning sheet, {} one of more than one finish",
         play.calls, play.burning, play.several
     );
     eprintln!("{own} of {parts} parts with a roughness of their own");
+    eprintln!("{} calls left a mark in a total", play.beyond);
     play.out.flush().expect("standard output");
 }

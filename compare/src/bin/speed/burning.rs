@@ -8,37 +8,41 @@ use compare::inputs::Random;
 use compare::mirror_c as theirs;
 use compare::model::PLACES;
 
-use crate::sheets::{sheet, sum_of, Open as Burnout, CELLS};
+use crate::passes::{Lent, Open as Burnout, CELLS};
+use crate::sheets::sheet;
 use crate::timing::{measure, row};
 
-type Ignite = unsafe extern "C" fn(*mut SheetWords, f64, *mut f64, usize, *mut u64) -> u32;
+type Ignite =
+    unsafe extern "C" fn(*mut SheetWords, f64, *mut f64, usize, *mut u8, usize, *mut u64) -> u32;
 
 /// A generator of their own, so that all other inputs stay as they are.
 const SEED: u64 = 0x5eed_000e;
 
 /// Ignites one full sheet with nozzle after nozzle.
 fn ignite_pass(f: Ignite, sheet: &SheetWords, nozzles: &[f64]) -> u64 {
-    let mut cells = [0.0; CELLS];
+    let mut lent = Lent::<CELLS>::new();
     let (mut words, mut bits, mut sum) = (*sheet, 0, 0u64);
     for &n in nozzles {
+        let (cells, marks) = (lent.cells.as_mut_ptr(), lent.marks.as_mut_ptr());
         // SAFETY: all are our own and apart.
-        let status = unsafe { f(&mut words, n, cells.as_mut_ptr(), CELLS, &mut bits) };
+        let status = unsafe { f(&mut words, n, cells, CELLS, marks, CELLS, &mut bits) };
         assert_eq!(status, 0);
-        sum = sum.wrapping_add(sum_of(&cells));
+        sum = sum.wrapping_add(lent.sum());
     }
     sum
 }
 
 /// Burns out each of these sheets.
 fn burnout_pass(f: Burnout, sheets: &[SheetWords]) -> u64 {
-    let mut cells = [0.0; CELLS];
+    let mut lent = Lent::<CELLS>::new();
     let mut sum = 0u64;
     for sheet in sheets {
         let (mut words, mut bits) = (*sheet, 0);
+        let (cells, marks) = (lent.cells.as_mut_ptr(), lent.marks.as_mut_ptr());
         // SAFETY: all are our own and apart.
-        let status = unsafe { f(&mut words, cells.as_mut_ptr(), CELLS, &mut bits) };
+        let status = unsafe { f(&mut words, cells, CELLS, marks, CELLS, &mut bits) };
         assert_eq!(status, 0);
-        sum = sum.wrapping_add(sum_of(&cells));
+        sum = sum.wrapping_add(lent.sum());
     }
     sum
 }

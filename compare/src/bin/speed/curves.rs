@@ -37,15 +37,25 @@ type Curve = unsafe extern "C" fn(
     usize,
     *mut u64,
     usize,
+    *mut u8,
+    usize,
     *mut [u64; 3],
 ) -> u32;
 
+/// What a pass has for answers, as many words as marks.
+#[derive(Clone)]
+struct Out {
+    bits: Vec<u64>,
+    marks: Vec<u8>,
+}
+
 /// Builds each curve and asks it at all Machs.
-fn curve_pass(f: Curve, shape: u64, curves: &[[f64; 3]], machs: &[f64], out: &mut [u64]) -> u64 {
+fn curve_pass(f: Curve, shape: u64, curves: &[[f64; 3]], machs: &[f64], out: &mut Out) -> u64 {
     let mut sum = 0u64;
+    let Out { bits, marks } = out;
     for &[parameter, fineness, angle] in curves {
         let mut about = [0; 3];
-        // SAFETY: `out` and `machs` are passed with their lengths, `about` is our own.
+        // SAFETY: all slices are passed with their lengths, `about` is our own.
         let status = unsafe {
             f(
                 shape,
@@ -54,14 +64,16 @@ fn curve_pass(f: Curve, shape: u64, curves: &[[f64; 3]], machs: &[f64], out: &mu
                 angle,
                 machs.as_ptr(),
                 machs.len(),
-                out.as_mut_ptr(),
-                out.len(),
+                bits.as_mut_ptr(),
+                bits.len(),
+                marks.as_mut_ptr(),
+                marks.len(),
                 &mut about,
             )
         };
         assert_eq!(status, 0);
         sum = sum.wrapping_add(about[1]).wrapping_add(about[2]);
-        if let Some(last) = out.last() {
+        if let Some(last) = bits.last() {
             sum = sum.wrapping_add(*last);
         }
     }
@@ -71,7 +83,10 @@ fn curve_pass(f: Curve, shape: u64, curves: &[[f64; 3]], machs: &[f64], out: &mu
 pub fn curves(random: &mut Random) {
     let (port, original) = black_box((raw::cobalnis_curve as Curve, theirs::curve as Curve));
     let time = |shape: u64, curves: &[[f64; 3]], machs: &[f64]| {
-        let mut out = vec![0; machs.len()];
+        let mut out = Out {
+            bits: vec![0; machs.len()],
+            marks: vec![0; machs.len()],
+        };
         let mut out_too = out.clone();
         measure(
             curves.len() * machs.len().max(1),

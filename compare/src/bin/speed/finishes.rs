@@ -8,8 +8,8 @@ use compare::inputs::Random;
 use compare::mirror_c as theirs;
 use compare::model::{rows, COLUMNS, FINISHES, PLACES};
 
-use crate::sheets::{build_pass, column_pass, fifteen, part, replace_pass, sheet};
-use crate::sheets::{Edit, SetColumn, CELLS};
+use crate::passes::{build_pass, column_pass, replace_pass, Edit, SetColumn, CELLS};
+use crate::sheets::{fifteen, part, sheet};
 use crate::timing::{measure, row, Times};
 
 /// The cells of these sheets.

@@ -12,6 +12,7 @@ mod cards;
 mod curves;
 mod finishes;
 mod formulas;
+mod passes;
 mod sheets;
 mod timing;
 mod walks;
@@ -34,11 +35,13 @@ const INPUTS: usize = 1024;
 const NOTES: &str = "
 - Formulas go through one numbered function on either side, so each pays for finding its formula.
 - `coefficient` is asked 1024 times for each curve built.
+- The port's lookups, coefficients and sheets come with their marks; the original has none, and is
+  measured in the build that notes no lookup.
 - The original has no sheet and no cards; there the other side is a model of each
-  (model.rs, cards.rs) over the original's functions. It builds each curve once a call, but it
-  allocates a vector for each row that it tries and writes, and takes the boattail factor and the
-  form factor anew at each column. At a column it asks for the skin friction at the settings'
-  roughness once, and for each roughness of a part's own once more.
+  (model.rs, cards.rs) over the original's functions, which then writes no marks. It builds each
+  curve once a call, but it allocates a vector for each row that it tries and writes, and takes the
+  boattail factor and the form factor anew at each column. At a column it asks for the skin friction
+  at the settings' roughness once, and for each roughness of a part's own once more.
 - Parts have no roughness of their own where nothing is said of one. Rows with and without differ
   in those numbers alone.
 - Whole build, remove and burnout start from a copied sheet (1616 bytes) on either side.

@@ -9,9 +9,11 @@ use cobalnis::words::{
 };
 use compare::inputs::Random;
 use compare::mirror_c as theirs;
-use compare::model::{rows, COLUMNS, PLACES};
+use compare::model::{COLUMNS, PLACES};
 
 use crate::curves::parameter;
+use crate::passes::{build_pass, column_pass, rebuild_pass, remove_pass, replace_pass};
+use crate::passes::{Edit, Open, Remove, SetColumn, CELLS};
 use crate::timing::{measure, row, Times};
 
 /// A part behind one of diameter `fore`, without a roughness of its own; `widens` says whether it
@@ -62,131 +64,6 @@ pub fn sheet(random: &mut Random, parts: usize, widens: bool) -> SheetWords {
         words[at..at + PART_WORDS].copy_from_slice(&new);
     }
     words
-}
-
-pub type Edit = unsafe extern "C" fn(
-    *mut SheetWords,
-    usize,
-    *const PartWords,
-    *mut f64,
-    usize,
-    *mut u64,
-) -> u32;
-pub type Open = unsafe extern "C" fn(*mut SheetWords, *mut f64, usize, *mut u64) -> u32;
-type Remove = unsafe extern "C" fn(*mut SheetWords, usize, *mut f64, usize, *mut u64) -> u32;
-pub type SetColumn =
-    unsafe extern "C" fn(*mut SheetWords, usize, f64, f64, *mut f64, usize, *mut u64) -> u32;
-
-/// The cells of these sheets, with one finish.
-pub const CELLS: usize = rows(1) * COLUMNS;
-
-/// The last column's total, in the last finish, and a part's cell stand for all cells.
-pub fn sum_of(cells: &[f64]) -> u64 {
-    cells[cells.len() - 1].to_bits() ^ cells[COLUMNS + 3].to_bits()
-}
-
-/// Inserts the 16th part into each sheet of 15, which writes all rows.
-pub fn build_pass<const N: usize>(f: Edit, sheets: &[(SheetWords, PartWords)]) -> u64 {
-    let mut cells = [0.0; N];
-    let mut sum = 0u64;
-    for (sheet, part) in sheets {
-        let mut words = *sheet;
-        accepted(f, &mut words, PLACES - 1, part, &mut cells);
-        sum = sum.wrapping_add(sum_of(&cells));
-    }
-    sum
-}
-
-/// One call that puts a part at a place, and is accepted.
-fn accepted(f: Edit, words: &mut SheetWords, place: usize, part: &PartWords, cells: &mut [f64]) {
-    let (mut bits, count) = (0, cells.len());
-    // SAFETY: all are borrowed apart, and the cells are as many as is said.
-    let status = unsafe { f(words, place, part, cells.as_mut_ptr(), count, &mut bits) };
-    assert_eq!(status, 0);
-}
-
-/// Opens each sheet and inserts all of its parts: what a host without replace would do.
-fn rebuild_pass(open: Open, insert: Edit, sheets: &[SheetWords]) -> u64 {
-    let mut cells = [0.0; CELLS];
-    let mut sum = 0u64;
-    for sheet in sheets {
-        let (mut words, mut bits) = (*sheet, 0);
-        // SAFETY: all are our own and apart.
-        let status = unsafe { open(&mut words, cells.as_mut_ptr(), CELLS, &mut bits) };
-        assert_eq!(status, 0);
-        let (parts, rest) = sheet[FIRST_PART..].as_chunks::<PART_WORDS>();
-        assert!(rest.is_empty());
-        for (place, part) in parts.iter().enumerate() {
-            accepted(insert, &mut words, place, part, &mut cells);
-        }
-        sum = sum.wrapping_add(sum_of(&cells));
-    }
-    sum
-}
-
-/// Replaces part after part in one full sheet.
-pub fn replace_pass<const N: usize>(
-    f: Edit,
-    sheet: &SheetWords,
-    parts: &[(usize, PartWords)],
-) -> u64 {
-    let mut cells = [0.0; N];
-    let (mut words, mut sum) = (*sheet, 0u64);
-    for (place, part) in parts {
-        accepted(f, &mut words, *place, part, &mut cells);
-        sum = sum.wrapping_add(sum_of(&cells));
-    }
-    sum
-}
-
-/// Removes a part from each full sheet.
-fn remove_pass(f: Remove, sheets: &[(SheetWords, PartWords)]) -> u64 {
-    let mut cells = [0.0; CELLS];
-    let mut sum = 0u64;
-    for (at, (sheet, _)) in sheets.iter().enumerate() {
-        let (mut words, mut bits) = (*sheet, 0);
-        words[PARTS_AT] = PLACES as u64;
-        // SAFETY: all are our own and apart.
-        let status = unsafe {
-            f(
-                &mut words,
-                at % PLACES,
-                cells.as_mut_ptr(),
-                CELLS,
-                &mut bits,
-            )
-        };
-        assert_eq!(status, 0);
-        sum = sum.wrapping_add(sum_of(&cells));
-    }
-    sum
-}
-
-/// Sets column after column in one full sheet.
-pub fn column_pass<const N: usize>(
-    f: SetColumn,
-    sheet: &SheetWords,
-    columns: &[(usize, f64, f64)],
-) -> u64 {
-    let mut cells = [0.0; N];
-    let (mut words, mut bits, mut sum) = (*sheet, 0, 0u64);
-    for &(column, mach, reynolds) in columns {
-        // SAFETY: all are our own and apart.
-        let status = unsafe {
-            f(
-                &mut words,
-                column,
-                mach,
-                reynolds,
-                cells.as_mut_ptr(),
-                N,
-                &mut bits,
-            )
-        };
-        assert_eq!(status, 0);
-        sum = sum.wrapping_add(sum_of(&cells));
-    }
-    sum
 }
 
 /// Sheets of 15 parts, with the 16th.

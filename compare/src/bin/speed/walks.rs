@@ -10,7 +10,7 @@ use compare::original_fixed::StoneyNose;
 
 use crate::timing::{measure, row, Times};
 
-type Lookup = unsafe extern "C" fn(u32, f64, *mut [u64; 3]) -> u32;
+type Lookup = unsafe extern "C" fn(u32, f64, *mut [u64; 4]) -> u32;
 type Walk =
     unsafe extern "C" fn(u32, *const f64, usize, *mut f64, usize, *mut usize, *mut u64) -> u32;
 
@@ -20,7 +20,7 @@ fn lookup_pass(f: Lookup, flights: &[Flight]) -> u64 {
     let mut sum = 0u64;
     for (nose, machs) in flights {
         for &mach in machs {
-            let mut out = [0; 3];
+            let mut out = [0; 4];
             // SAFETY: `out` is our own.
             let status = unsafe { f(*nose, mach, &mut out) };
             assert_eq!(status, 0);

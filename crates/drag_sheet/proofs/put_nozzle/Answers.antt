@@ -9,4 +9,6 @@ pub returns : goal.returns
 unfolding overwritten
 returns c =
     let slots : length c.args.sheet.design.parts ≡ most_parts = search rules in
-    record { sheet_left = nozzle_sheet c.args.sheet slots c.requires.parts c.args.nozzle_diameter; cells = c.write_nozzle_rows.ensures }
+    let f = c.write_nozzle_rows.ensures in
+    let g = c.mark_nozzle_rows.ensures in
+    record { sheet_left = nozzle_sheet c.args.sheet slots c.requires.0.parts c.args.nozzle_diameter; both = λ i. record { cells = f i; marks = g i } }

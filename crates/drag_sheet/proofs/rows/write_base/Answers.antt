@@ -8,6 +8,7 @@ use Rattle.sheet_data.specs.Contents.{contents_of}
 use Rattle.sheet_data.specs.RowLaws.{middle_long, put_row}
 use Rattle.drag_sheet.specs.Formulas.{base_area}
 use Rattle.drag_sheet.specs.Body.{base_over}
+use Rattle.drag_sheet.specs.Planes.{cell_plane}
 use Rattle.drag_sheet.specs.Build.{row_of}
 use Rattle.drag_sheet.proofs.Laying.{placed}
 use Rattle.drag_sheet.proofs.Taken.{taken_cells}
@@ -24,6 +25,6 @@ returns c =
     let f = c.fill_base in
     let S = c.args.sheet.settings in
     let m = middle_long c.offset-at.result S.count c.args.cells.now (room (goal.at.returns c).After-offset-at) in
-    let e : f.new.out ≡ row_of (contents_of c.args.sheet) (base_row S.finishes) =
+    let e : f.new.out ≡ row_of cell_plane (contents_of c.args.sheet) (base_row S.finishes) =
     f.ensures ∙ rw (m, c.base_area-area.ensures) (taken_cells (base_over (base_area (contents_of c.args.sheet))) S ∙ base_made (contents_of c.args.sheet)) in
     put_row c.offset-at.result S.count f.new.out c.args.cells.now (f.auto.out ∙ m) ∙ rw (e, (placed c.layout_of-layout.ensures c.offset-at.ensures).place, c.base_row.ensures, c.layout_of-layout.ensures.0)

@@ -4,6 +4,7 @@ use Rattle.sheet_data.specs.Layout.{friction_row}
 use Rattle.sheet_data.specs.Contents.{contents_of}
 use Rattle.sheet_data.specs.Rows.{from}
 use Rattle.sheet_data.specs.RowLaws.{rows_append}
+use Rattle.drag_sheet.specs.Planes.{cell_plane}
 use Rattle.drag_sheet.specs.Build.{row_of}
 use Rattle.drag_sheet.specs.Calls.{nozzle_rows, body_rows}
 use Rattle.drag_sheet.proofs.rows.write_body.Goals as goal
@@ -12,4 +13,4 @@ pub returns : goal.returns
 unfolding body_rows
 returns c =
     c.write_nozzle_rows.ensures
-    ∙ rw (c.write_frictions.ensures, rows_append c.args.sheet.settings.count (row_of (contents_of c.args.sheet)) (nozzle_rows c.args.sheet.settings.finishes) (from (friction_row 0) c.args.sheet.settings.finishes) c.args.cells.now)
+    ∙ rw (c.write_frictions.ensures, rows_append c.args.sheet.settings.count (row_of cell_plane (contents_of c.args.sheet)) (nozzle_rows c.args.sheet.settings.finishes) (from (friction_row 0) c.args.sheet.settings.finishes) c.args.cells.now)

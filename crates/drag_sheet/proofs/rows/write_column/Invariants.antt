@@ -3,4 +3,4 @@ use Rattle.drag_sheet.proofs.Laying.{Putting}
 use Rattle.drag_sheet.proofs.rows.write_column.Given as goal
 
 abbrev pub invariant-loop-row : goal.invariant-loop-row
-invariant-loop-row l = Putting l.column l.layout.finishes l.layout.columns l.values l.initial.cells l.cells l.row
+invariant-loop-row g l = (d : g.row.T.Denot) → Putting d l.column l.layout.finishes l.layout.columns l.values l.initial.cells l.cells l.row

@@ -1,0 +1,12 @@
+-- `mark_nozzle_rows` meets its contract: the base row has no mark.
+use mathlib.Core.Path.{ap, ◌∙◌}
+use Rattle.sheet_data.specs.Contents.{contents_of}
+use Rattle.drag_sheet.specs.Planes.{mark_plane}
+use Rattle.drag_sheet.specs.Writing.{totalled}
+use Rattle.drag_sheet.proofs.MarkRows.{nozzle_cleared}
+use Rattle.drag_sheet.proofs.marks.mark_nozzle_rows.Goals as goal
+
+pub returns : goal.returns
+returns c =
+    let S = c.args.sheet.settings in
+    c.clear.ensures ∙ rw (c.base_row.ensures, c.layout_of-layout.ensures.0, c.layout_of-layout.ensures.1) (ap (totalled mark_plane S.finishes S.count) (nozzle_cleared (contents_of c.args.sheet) c.args.marks.now))
