@@ -1,5 +1,6 @@
-//! The marks of the model of the sheet (docs/REFERENCE.md, Rows): of every call by hand, below, at and
-//! above the last Mach numbers of the tables, those that somebody else wrote, and refused calls.
+//! The marks of the model of the sheet (docs/REFERENCE.md, Rows): of each shape and of every call by
+//! hand, below, at and above the last Mach numbers of the tables, those that somebody else wrote, and
+//! refused calls.
 
 use compare::arguments::Arguments;
 use compare::cards::{printed, shape_of};
@@ -74,6 +75,42 @@ fn has_marks(sheet: &Sheet, held: &Buffers, parts: &[(usize, &[u8])], total: &[u
         };
         assert_eq!(marks(sheet, row, held), wanted, "row {row} of {finishes}");
     }
+}
+
+/// Each shape's marks below, at and above the least last Mach number of the tables that it reads.
+#[test]
+fn each_shape_by_hand() {
+    for (shape, end) in [
+        ((2, 0.0), END),
+        ((3, 0.0), END),
+        ((3, 0.1), END),
+        ((3, 0.25), HALF),
+        ((3, 0.5), HALF),
+        ((3, 0.6), HALF),
+        ((3, 0.75), 1.967),
+        ((3, 1.0), 1.967),
+        ((4, 0.0), 1.968),
+        ((4, 0.6), 1.968),
+        ((4, 1.0), 1.968),
+        ((5, 0.0), 1.977),
+        ((5, 1.0 / 3.0), 1.977),
+    ] {
+        let machs = [0.0, 0.5, 1.0, end.next_down(), end, end.next_up(), 1e200];
+        assert_eq!(marks_of(shape, &machs), [0, 0, 0, 0, 0, 1, 1], "{shape:?}");
+    }
+    for shape in [CONE, (1, 1.0), (1, 3.0)] {
+        assert_eq!(marks_of(shape, &[0.5, END, 5.0, 1e200]), [0; 4]);
+    }
+}
+
+/// The marks of a nose of this shape alone, which are the total's too.
+fn marks_of(shape: (u64, f64), machs: &[f64]) -> Vec<u8> {
+    let mut held = Buffers::of(rows(1) * machs.len(), 7.0, 7);
+    let sheet = accepted(open(&settings(1, machs), held.lend()));
+    let sheet = accepted(insert(&sheet, 0, &part(shape, 0.5), held.lend()));
+    let nose = marks(&sheet, 0, &held).to_vec();
+    has_marks(&sheet, &held, &[(0, &nose)], &nose);
+    nose
 }
 
 /// Every call, with one to four finishes: parts that widen have their curve's marks, all others none,

@@ -26,7 +26,8 @@ use Rattle.sheet_data.specs.Contents.{no_part}
 use Rattle.sheet_data.specs.Tables.{tab, tab_of, tab_same}
 use Rattle.sheet_text.proofs.Puts.{sets_append}
 use Rattle.nose_drag.specs.declared.curve.PressureDragCurve.{PressureDragCurve}
-use Rattle.cobalnis.specs.Answers.{coefficient_bits, coefficient_word}
+use Rattle.nose_drag.specs.Beyond.{drag_of}
+use Rattle.cobalnis.specs.Answers.{drag_bits, drag_mark, coefficient_word, mark_byte}
 use Rattle.cobalnis.specs.Words.{part_word_count, first_part, sheet_word_count, every, float, part_of, part_chunks, spread, float_words, part_words, shapes_known}
 
 -- ---- reading
@@ -138,8 +139,12 @@ pub float_more : (ws : List ℕ) (at i : ℕ) (xs : List Float) → i < length x
 float_more ws at i xs h = spread_more float_words 1 (λ x. refl) xs nan i ws at (at + i) (omega arith) h
 
 pub coefficient_more : (curve : PressureDragCurve) (ws : List ℕ) (i : ℕ) (Ms : List Float) → i < length Ms
-    → sets ws 0 (spread (coefficient_word curve) (take (i + 1) Ms)) ≡ set (sets ws 0 (spread (coefficient_word curve) (take i Ms))) i (coefficient_bits curve (get_or Ms i nan))
+    → sets ws 0 (spread (coefficient_word curve) (take (i + 1) Ms)) ≡ set (sets ws 0 (spread (coefficient_word curve) (take i Ms))) i (drag_bits (drag_of curve (get_or Ms i nan)))
 coefficient_more curve ws i Ms h = spread_more (coefficient_word curve) 1 (λ M. refl) Ms nan i ws 0 i (omega arith) h
+
+pub mark_more : (curve : PressureDragCurve) (ws : List ℕ) (i : ℕ) (Ms : List Float) → i < length Ms
+    → sets ws 0 (spread (mark_byte curve) (take (i + 1) Ms)) ≡ set (sets ws 0 (spread (mark_byte curve) (take i Ms))) i (drag_mark (drag_of curve (get_or Ms i nan)))
+mark_more curve ws i Ms h = spread_more (mark_byte curve) 1 (λ M. refl) Ms nan i ws 0 i (omega arith) h
 
 pub part_more : (ws : List ℕ) (at i : ℕ) (ps : List Part) → i < length ps
     → sets ws at (spread part_words (take (i + 1) ps)) ≡ sets (sets ws at (spread part_words (take i ps))) (at + part_word_count * i) (part_words (get_or ps i no_part))

@@ -1,8 +1,9 @@
 -- What each function of the library answers: a status, and what it leaves in the memory that it was lent.
 use denote.Ref.{MutBor}
-use Rattle.std.specs.Prelude.{◌≡◌, Bool, true, false, cond, List, [], ◌∷◌, ℕ, ◌+◌, ◌*◌, length, get_or, drop, eqb, leb, ltb, Float, Ok, Err, Option, Some, None}
+use Rattle.std.specs.Prelude.{◌≡◌, Bool, true, false, cond, List, [], ◌∷◌, ℕ, ◌+◌, ◌*◌, length, get_or, drop, eqb, leb, ltb, min, Float, Ok, Err, Option, Some, None}
 use Rattle.aero_error.specs.Checks.{◌then◌, unless, ◌and_then◌, Check, Coefficient}
-use Rattle.nose_drag.specs.Curves.{step_curve, new_curve, coefficient_of, Curve}
+use Rattle.nose_drag.specs.Curves.{step_curve, new_curve, Curve}
+use Rattle.nose_drag.specs.Beyond.{Drag, drag_of}
 use Rattle.walk.specs.Answers.{Walked, Answered}
 use Rattle.std.proofs.lemmas.List.Edits.{sets}
 use Rattle.std.specs.Float.Ieee.{to_bits}
@@ -21,12 +22,13 @@ use Rattle.drag.specs.Pressure.{stagnation_ratio, stagnation_pressure_ratio, sta
 use Rattle.shapes.specs.Numbers.{shape_of, parameter_of, von_karman, lv_haack}
 use Rattle.stoney.specs.Tables.{nose_at}
 use Rattle.stoney.specs.Points.{mach_at, drag_at, range_of, first_mach}
-use Rattle.stoney.specs.Lookup.{value_and_slope}
+use Rattle.stoney.specs.Lookup.{value_and_slope, beyond}
 use Rattle.nose_drag.specs.declared.curve.PressureDragCurve.{PressureDragCurve}
 use Rattle.nose_drag.specs.Below.{subsonic_pressure_drag_coefficient}
 use Rattle.nose_drag.specs.Methods.{ogive_pressure_drag_factor, fineness_scaled_pressure_drag, ellipsoid_subsonic_pressure_drag}
 use Rattle.sheet_data.specs.declared.Sheet.{Sheet}
 use Rattle.sheet_data.specs.Layout.{most_parts}
+use Rattle.drag_sheet.specs.Planes.{Lent, lent}
 use Rattle.drag_sheet.specs.Calls.{Answer, Call, Called, Opened}
 use Rattle.cards.specs.Fields.{Read}
 use Rattle.sheet_data.specs.declared.Part.{Part}
@@ -140,11 +142,11 @@ point_words nose place before =
     let at = (range_of (nose_at nose)).first + place in
     cond (is_nose nose) (cond (leb (range_of (nose_at nose)).count place) before (to_bits binary64 (mach_at at) ∷ to_bits binary64 (drag_at at) ∷ [])) before
 
--- the table's value and slope at a Mach, and its first Mach
+-- the table's value and slope at a Mach, its first Mach, and 1 where the Mach is beyond the table's last point, else 0
 abbrev pub lookup_words : ℕ → Float → List ℕ → List ℕ
 lookup_words nose M before =
     let at = value_and_slope (nose_at nose) M in
-    cond (is_nose nose) (to_bits binary64 at.value ∷ to_bits binary64 at.slope ∷ to_bits binary64 (first_mach (nose_at nose)) ∷ []) before
+    cond (is_nose nose) (to_bits binary64 at.value ∷ to_bits binary64 at.slope ∷ to_bits binary64 (first_mach (nose_at nose)) ∷ cond (beyond (nose_at nose) M) 1 0 ∷ []) before
 
 -- the answer of `walk`'s own call: accepted, the count is handed out; refused, it is as it was, and the value refused is handed out
 abbrev pub WalkShown : Walked → ℕ → ℕ → ℕ → ℕ → Type 0
@@ -167,27 +169,49 @@ WalkDone false nose Ms xs before bits r ys compared bits' = (r ≡ no_such) × (
 abbrev pub curve_from : ℕ → Float → Float → Float → Curve
 curve_from shape parameter fineness angle = cond (eqb shape 6) (Ok step_curve) (new_curve (shape_of shape parameter) fineness angle)
 
-abbrev pub coefficient_bits : PressureDragCurve → Float → ℕ
-coefficient_bits curve M = answer_bits (coefficient_of curve M)
+-- the bits of a coefficient, or of the value refused, and its mark
+abbrev pub drag_bits : Drag → ℕ
+drag_bits (Ok drag) = to_bits binary64 drag.value
+drag_bits (Err e) = to_bits binary64 (told_of e).value
+
+abbrev pub drag_mark : Drag → ℕ
+drag_mark (Ok drag) = cond drag.beyond 1 0
+drag_mark (Err e) = 0
 
 abbrev pub coefficient_word : PressureDragCurve → Float → List ℕ
-coefficient_word curve M = coefficient_bits curve M ∷ []
+coefficient_word curve M = drag_bits (drag_of curve M) ∷ []
+
+abbrev pub mark_byte : PressureDragCurve → Float → List ℕ
+mark_byte curve M = drag_mark (drag_of curve M) ∷ []
 
 -- the value refused, the value at rest and the transonic lower bound
 abbrev pub about : Float → PressureDragCurve → List ℕ
 about value curve = to_bits binary64 value ∷ to_bits binary64 curve.rest ∷ to_bits binary64 curve.mach_low ∷ []
 
--- a curve at these Machs: the status r, the lent words before (xs) and after (ys), and what is said about the curve
-abbrev pub ReadAt : Check → PressureDragCurve → List Float → List ℕ → ℕ → List ℕ → List ℕ → Type 0
-ReadAt (Ok _) curve machs xs r ys said = (r ≡ 0) × (ys ≡ sets xs 0 (spread (coefficient_word curve) machs)) × (said ≡ about 0·0 curve)
+-- words and marks that are lent, a word and a mark for each Mach
+pub record LentWords : Type 0 where
+  pub words : List ℕ
+  pub marks : List ℕ
+
+abbrev pub lent_words : List ℕ → List ℕ → LentWords
+lent_words words marks = record { words = words; marks = marks }
+
+-- 10 where either is too short, then every Mach by itself
+abbrev pub machs_given : List Float → LentWords → Check
+machs_given machs xs = unless (ltb (min (length xs.words) (length xs.marks)) (length machs)) TooFewCells then machs_test machs
+
+-- a curve at these Machs: the status r, what is lent before (xs) and after (ys), and what is said about the curve
+abbrev pub ReadAt : Check → PressureDragCurve → List Float → LentWords → ℕ → LentWords → List ℕ → Type 0
+ReadAt (Ok _) curve machs xs r ys said =
+    (r ≡ 0) × (ys.words ≡ sets xs.words 0 (spread (coefficient_word curve) machs)) × (ys.marks ≡ sets xs.marks 0 (spread (mark_byte curve) machs)) × (said ≡ about 0·0 curve)
 ReadAt (Err e) curve machs xs r ys said = (r ≡ status_of e) × (ys ≡ xs) × (said ≡ about (told_of e).value curve)
 
-abbrev pub CurveDone : Curve → List Float → List ℕ → ℕ → List ℕ → List ℕ → Type 0
+abbrev pub CurveDone : Curve → List Float → LentWords → ℕ → LentWords → List ℕ → Type 0
 CurveDone (Err e) machs xs r ys said = (r ≡ status_of e) × (ys ≡ xs) × (said ≡ to_bits binary64 (told_of e).value ∷ 0 ∷ 0 ∷ [])
-CurveDone (Ok curve) machs xs r ys said = ReadAt (unless (ltb (length xs) (length machs)) TooFewCells then machs_test machs) curve machs xs r ys said
+CurveDone (Ok curve) machs xs r ys said = ReadAt (machs_given machs xs) curve machs xs r ys said
 
 -- a shape's number above 6 names none
-abbrev pub CurveAnswered : Bool → Curve → List Float → List ℕ → List ℕ → ℕ → List ℕ → List ℕ → Type 0
+abbrev pub CurveAnswered : Bool → Curve → List Float → LentWords → List ℕ → ℕ → LentWords → List ℕ → Type 0
 CurveAnswered false curve machs xs before r ys said = CurveDone curve machs xs r ys said
 CurveAnswered true curve machs xs before r ys said = (r ≡ no_such) × (ys ≡ xs) × (said ≡ before)
 
@@ -199,24 +223,24 @@ Shown (Ok _) sheet ws r ws' bits' = (r ≡ 0) × (ws' ≡ sheet_words sheet) × 
 Shown (Err e) sheet ws r ws' bits' = (r ≡ status_of e) × (ws' ≡ ws) × (bits' ≡ to_bits binary64 (told_of e).value)
 
 -- the answer of `drag_sheet`'s own call on the sheet that the words stand for, shown in words
-pub record CallShown (call : Call) (ws : List ℕ) (xs : List Float) (r : ℕ) (ws' : List ℕ) (bits' : ℕ) (ys : List Float) : Type 0 where
+pub record CallShown (call : Call) (ws : List ℕ) (xs : Lent) (r : ℕ) (ws' : List ℕ) (bits' : ℕ) (ys : Lent) : Type 0 where
   pub answer : Answer
   pub called : Called call (sheet_of ws) xs answer ys
   pub shown : Shown answer.outcome answer.sheet ws r ws' bits'
 
-pub record OpenShown (ws : List ℕ) (xs : List Float) (r : ℕ) (ws' : List ℕ) (bits' : ℕ) (ys : List Float) : Type 0 where
+pub record OpenShown (ws : List ℕ) (xs : Lent) (r : ℕ) (ws' : List ℕ) (bits' : ℕ) (ys : Lent) : Type 0 where
   pub answer : Answer
   pub opened : Opened (settings_of ws) xs answer ys
   pub shown : Shown answer.outcome answer.sheet ws r ws' bits'
 
--- what a closure answers and leaves, lent a sheet and cells, is what this call does; `post` is the closure's
-abbrev pub Makes : (MutBor Sheet → MutBor (List Float) → Check → MutBor Sheet → MutBor (List Float) → Type 0) → Call → Type 0
+-- what a closure answers and leaves, lent a sheet, cells and marks, is what this call does; `post` is the closure's
+abbrev pub Makes : (MutBor Sheet → MutBor (List Float) → MutBor (List ℕ) → Check → MutBor Sheet → MutBor (List Float) → MutBor (List ℕ) → Type 0) → Call → Type 0
 Makes post call =
-    (sheet : MutBor Sheet) (cells : MutBor (List Float)) (r : Check) (sheet' : MutBor Sheet) (cells' : MutBor (List Float))
-    → post sheet cells r sheet' cells' → Called call sheet.now cells.now (record { outcome = r; sheet = sheet'.now }) cells'.now
+    (sheet : MutBor Sheet) (cells : MutBor (List Float)) (marks : MutBor (List ℕ)) (r : Check) (sheet' : MutBor Sheet) (cells' : MutBor (List Float)) (marks' : MutBor (List ℕ))
+    → post sheet cells marks r sheet' cells' marks' → Called call sheet.now (lent cells.now marks.now) (record { outcome = r; sheet = sheet'.now }) (lent cells'.now marks'.now)
 
 -- where every shape has a number up to 5; else refusal 5 before all others
-abbrev pub CallDone : Bool → Call → List ℕ → List Float → ℕ → List ℕ → ℕ → List Float → Type 0
+abbrev pub CallDone : Bool → Call → List ℕ → Lent → ℕ → List ℕ → ℕ → Lent → Type 0
 CallDone true call ws xs r ws' bits' ys = CallShown call ws xs r ws' bits' ys
 CallDone false call ws xs r ws' bits' ys = (r ≡ status_of (Broken ReservedBit)) × (ws' ≡ ws) × (bits' ≡ 0) × (ys ≡ xs)
 

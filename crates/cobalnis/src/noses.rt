@@ -5,8 +5,9 @@ ghost use Rattle.std.proofs.lemmas.List.Edits.{sets};
 ghost use Rattle.aero_error.specs.Checks.{◌then◌, unless};
 ghost use Rattle.aero_error.specs.declared.Rule.TheVariants.{TooFewCells};
 ghost use Rattle.drag.specs.Friction.{machs_test};
+ghost use Rattle.nose_drag.specs.Beyond.{drag_of};
 ghost use Rattle.cobalnis.specs.Words.{spread};
-ghost use Rattle.cobalnis.specs.Answers.{no_such, is_nose, point_status, point_words, lookup_words, WalkDone, curve_from, coefficient_bits, coefficient_word, about, ReadAt, CurveAnswered};
+ghost use Rattle.cobalnis.specs.Answers.{no_such, is_nose, point_status, point_words, lookup_words, WalkDone, curve_from, drag_bits, drag_mark, coefficient_word, mark_byte, about, lent_words, machs_given, ReadAt, CurveAnswered};
 
 use crate::answers::{NO_SUCH, refuse, status_of};
 use aero_error::{AeroError, Rule, unless};
@@ -34,18 +35,20 @@ pub fn cobalnis_nose_point(nose: u32, place: usize, out: &mut [u64; 2]) -> u32
     0
 }
 
-// A table's value and slope at a Mach, and its first Mach.
-pub fn cobalnis_nose_lookup(nose: u32, mach: f64, out: &mut [u64; 3]) -> u32
+// A table's value and slope at a Mach, its first Mach, and 1 where the Mach is beyond its last point, else 0.
+#[tactic(auto, using(drag_sheet::proofs::MadeCells::byte_of))]
+pub fn cobalnis_nose_lookup(nose: u32, mach: f64, out: &mut [u64; 4]) -> u32
     ensures { (result ≡ cond (is_nose nose) 0 no_such) × (out.new ≡ lookup_words nose mach out.old) }
 {
     let Ok(known) = StoneyNose::try_from(nose) else {
         return NO_SUCH;
     };
-    let at = known.value_and_slope(mach);
+    let reading = known.value_and_slope(mach);
     *out = [
-        elementary::to_bits(at.value),
-        elementary::to_bits(at.slope),
+        elementary::to_bits(reading.at.value),
+        elementary::to_bits(reading.at.slope),
         elementary::to_bits(known.first_mach()),
+        u64::from(reading.beyond),
     ];
     0
 }
@@ -93,20 +96,28 @@ fn curve_of(
     )
 }
 
-fn coefficient_bits(curve: PressureDragCurve, mach: f64) -> u64
-    ensures { result ≡ coefficient_bits curve mach }
+// The bits of a coefficient, or of the value refused, and its mark.
+#[tactic(auto, using(drag_sheet::proofs::MadeCells::byte_of))]
+fn coefficient_at(curve: PressureDragCurve, mach: f64) -> (u64, u8)
+    ensures { (result.0 ≡ drag_bits (drag_of curve mach)) × (result.1 ≡ drag_mark (drag_of curve mach)) }
 {
-    elementary::to_bits(curve.coefficient(mach).unwrap_or_else(|e| e.value()))
+    match curve.coefficient(mach) {
+        Ok(drag) => (elementary::to_bits(drag.value), u8::from(drag.beyond)),
+        Err(e) => (elementary::to_bits(e.value()), 0),
+    }
 }
 
-#[tactic(auto, using(crate::proofs::Turns::coefficient_more), unfolding(crate::specs::Words::spread))]
-fn fill(curve: PressureDragCurve, machs: &[f64], out: &mut [u64])
-    requires { length machs.now ≤ length out.old }
-    ensures { out.new ≡ sets out.old 0 (spread (coefficient_word curve) machs.now) }
+#[tactic(auto, using(crate::proofs::Turns::coefficient_more, crate::proofs::Turns::mark_more), unfolding(crate::specs::Words::spread))]
+fn fill(curve: PressureDragCurve, machs: &[f64], out: &mut [u64], marks: &mut [u8])
+    requires { (length machs.now ≤ length out.old) × (length machs.now ≤ length marks.old) }
+    ensures words { out.new ≡ sets out.old 0 (spread (coefficient_word curve) machs.now) }
+    ensures marks { marks.new ≡ sets marks.old 0 (spread (mark_byte curve) machs.now) }
 {
     // The words by place: of what is written through a zip nothing is known.
     for (i, mach) in machs.iter().enumerate() {
-        out[i] = coefficient_bits(curve, *mach);
+        let (word, mark) = coefficient_at(curve, *mach);
+        out[i] = word;
+        marks[i] = mark;
     }
 }
 
@@ -120,32 +131,38 @@ fn about(value: f64, curve: PressureDragCurve) -> [u64; 3]
     ]
 }
 
-// Room for the words, then every Mach number by itself. As `walk`'s, without its first test: two lines.
-fn check_given(machs: &[f64], cells: usize) -> Result<(), AeroError>
-    ensures { result ≡ (unless (ltb cells (length machs.now)) TooFewCells then machs_test machs.now) }
+// Room for the words and the marks, then every Mach number by itself. As `walk`'s, without its first test: two lines.
+fn check_given(machs: &[f64], room: usize) -> Result<(), AeroError>
+    ensures { result ≡ (unless (ltb room (length machs.now)) TooFewCells then machs_test machs.now) }
 {
-    unless(cells < machs.len(), Rule::TooFewCells)?;
+    unless(room < machs.len(), Rule::TooFewCells)?;
     drag::check_machs(machs)
 }
 
 // A built curve at these Machs.
-fn read_curve(curve: PressureDragCurve, machs: &[f64], out: &mut [u64], said: &mut [u64; 3]) -> u32
-    ensures { ReadAt (unless (ltb (length out.old) (length machs.now)) TooFewCells then machs_test machs.now) curve machs.now out.old result out.new said.new }
+fn read_curve(
+    curve: PressureDragCurve,
+    machs: &[f64],
+    out: &mut [u64],
+    marks: &mut [u8],
+    said: &mut [u64; 3],
+) -> u32
+    ensures { ReadAt (machs_given machs.now (lent_words out.old marks.old)) curve machs.now (lent_words out.old marks.old) result (lent_words out.new marks.new) said.new }
 {
-    match check_given(machs, out.len()) {
+    match check_given(machs, out.len().min(marks.len())) {
         Err(e) => {
             *said = about(e.value(), curve);
             status_of(e)
         }
         Ok(()) => {
-            fill(curve, machs, out);
+            fill(curve, machs, out, marks);
             *said = about(0.0, curve);
             0
         }
     }
 }
 
-// A curve by its shape's number, 6 being the step, and its coefficients at these Machs.
+// A curve by its shape's number, 6 being the step, and its coefficients at these Machs, with their marks.
 pub fn cobalnis_curve(
     shape: u64,
     parameter: f64,
@@ -153,9 +170,10 @@ pub fn cobalnis_curve(
     joint_angle_rad: f64,
     machs: &[f64],
     out: &mut [u64],
+    marks: &mut [u8],
     said: &mut [u64; 3],
 ) -> u32
-    ensures { CurveAnswered (ltb 6 shape) (curve_from shape parameter fineness_ratio joint_angle_rad) machs.now out.old said.old result out.new said.new }
+    ensures { CurveAnswered (ltb 6 shape) (curve_from shape parameter fineness_ratio joint_angle_rad) machs.now (lent_words out.old marks.old) said.old result (lent_words out.new marks.new) said.new }
 {
     if 6 < shape {
         return NO_SUCH;
@@ -165,6 +183,6 @@ pub fn cobalnis_curve(
             *said = [elementary::to_bits(e.value()), 0, 0];
             status_of(e)
         }
-        Ok(curve) => read_curve(curve, machs, out, said),
+        Ok(curve) => read_curve(curve, machs, out, marks, said),
     }
 }

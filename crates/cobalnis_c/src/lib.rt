@@ -5,8 +5,9 @@
 ghost use Rattle.std.specs.Prelude.{◌≡◌, cond, ltb};
 ghost use Rattle.aero_error.specs.Checks.{dimension};
 ghost use Rattle.cards.specs.Cards.{part_at, settings_at};
-ghost use Rattle.cobalnis.specs.Answers.{ClassShown, no_such, formula_of, formula_status, formula_bits, dimension_status, dimension_bits, is_nose, point_status, point_words, lookup_words, WalkDone, curve_from, CurveAnswered, CallDone, OpenShown, sheet_known, part_known, PartCard, SettingsCard};
+ghost use Rattle.cobalnis.specs.Answers.{ClassShown, no_such, formula_of, formula_status, formula_bits, dimension_status, dimension_bits, is_nose, point_status, point_words, lookup_words, WalkDone, curve_from, lent_words, CurveAnswered, CallDone, OpenShown, sheet_known, part_known, PartCard, SettingsCard};
 ghost use Rattle.cobalnis.specs.Words.{part_of};
+ghost use Rattle.drag_sheet.specs.Planes.{lent};
 ghost use Rattle.drag_sheet.specs.Calls.{insert as insert_call, remove as remove_call, replace as replace_call, set_column as column_call, ignite as ignite_call, burnout as burnout_call};
 ghost use Rattle.nose_drag.specs.Curves.{takes_cone_formula};
 ghost use Rattle.shapes.specs.Numbers.{shape_of};
@@ -63,7 +64,7 @@ pub extern "C" fn cobalnis_nose_point(nose: u32, place: usize, out: &mut [u64; 2
 }
 
 #[unsafe(no_mangle)]
-pub extern "C" fn cobalnis_nose_lookup(nose: u32, mach: f64, out: &mut [u64; 3]) -> u32
+pub extern "C" fn cobalnis_nose_lookup(nose: u32, mach: f64, out: &mut [u64; 4]) -> u32
     ensures { (result ≡ cond (is_nose nose) 0 no_such) × (out.new ≡ lookup_words nose mach out.old) }
 {
     cobalnis::cobalnis_nose_lookup(nose, mach, out)
@@ -90,9 +91,10 @@ pub extern "C" fn cobalnis_curve(
     joint_angle_rad: f64,
     machs: &[f64],
     out: &mut [u64],
+    marks: &mut [u8],
     said: &mut [u64; 3],
 ) -> u32
-    ensures { CurveAnswered (ltb 6 shape) (curve_from shape parameter fineness_ratio joint_angle_rad) machs.now out.old said.old result out.new said.new }
+    ensures { CurveAnswered (ltb 6 shape) (curve_from shape parameter fineness_ratio joint_angle_rad) machs.now (lent_words out.old marks.old) said.old result (lent_words out.new marks.new) said.new }
 {
     cobalnis::cobalnis_curve(
         shape,
@@ -101,6 +103,7 @@ pub extern "C" fn cobalnis_curve(
         joint_angle_rad,
         machs,
         out,
+        marks,
         said,
     )
 }
@@ -109,11 +112,12 @@ pub extern "C" fn cobalnis_curve(
 pub extern "C" fn cobalnis_open(
     words: &mut [u64; SHEET_WORDS],
     cells: &mut [f64],
+    marks: &mut [u8],
     bits: &mut u64,
 ) -> u32
-    ensures { OpenShown words.old cells.old result words.new bits.new cells.new }
+    ensures { OpenShown words.old (lent cells.old marks.old) result words.new bits.new (lent cells.new marks.new) }
 {
-    cobalnis::cobalnis_open(words, cells, bits)
+    cobalnis::cobalnis_open(words, cells, marks, bits)
 }
 
 #[unsafe(no_mangle)]
@@ -122,11 +126,12 @@ pub extern "C" fn cobalnis_insert(
     place: usize,
     part: &[u64; PART_WORDS],
     cells: &mut [f64],
+    marks: &mut [u8],
     bits: &mut u64,
 ) -> u32
-    ensures { CallDone (part_known part.now words.old) (insert_call place (part_of part.now)) words.old cells.old result words.new bits.new cells.new }
+    ensures { CallDone (part_known part.now words.old) (insert_call place (part_of part.now)) words.old (lent cells.old marks.old) result words.new bits.new (lent cells.new marks.new) }
 {
-    cobalnis::cobalnis_insert(words, place, part, cells, bits)
+    cobalnis::cobalnis_insert(words, place, part, cells, marks, bits)
 }
 
 #[unsafe(no_mangle)]
@@ -135,11 +140,12 @@ pub extern "C" fn cobalnis_replace(
     place: usize,
     part: &[u64; PART_WORDS],
     cells: &mut [f64],
+    marks: &mut [u8],
     bits: &mut u64,
 ) -> u32
-    ensures { CallDone (part_known part.now words.old) (replace_call place (part_of part.now)) words.old cells.old result words.new bits.new cells.new }
+    ensures { CallDone (part_known part.now words.old) (replace_call place (part_of part.now)) words.old (lent cells.old marks.old) result words.new bits.new (lent cells.new marks.new) }
 {
-    cobalnis::cobalnis_replace(words, place, part, cells, bits)
+    cobalnis::cobalnis_replace(words, place, part, cells, marks, bits)
 }
 
 #[unsafe(no_mangle)]
@@ -147,11 +153,12 @@ pub extern "C" fn cobalnis_remove(
     words: &mut [u64; SHEET_WORDS],
     place: usize,
     cells: &mut [f64],
+    marks: &mut [u8],
     bits: &mut u64,
 ) -> u32
-    ensures { CallDone (sheet_known words.old) (remove_call place) words.old cells.old result words.new bits.new cells.new }
+    ensures { CallDone (sheet_known words.old) (remove_call place) words.old (lent cells.old marks.old) result words.new bits.new (lent cells.new marks.new) }
 {
-    cobalnis::cobalnis_remove(words, place, cells, bits)
+    cobalnis::cobalnis_remove(words, place, cells, marks, bits)
 }
 
 #[unsafe(no_mangle)]
@@ -161,11 +168,12 @@ pub extern "C" fn cobalnis_set_column(
     mach: f64,
     reynolds: f64,
     cells: &mut [f64],
+    marks: &mut [u8],
     bits: &mut u64,
 ) -> u32
-    ensures { CallDone (sheet_known words.old) (column_call column mach reynolds) words.old cells.old result words.new bits.new cells.new }
+    ensures { CallDone (sheet_known words.old) (column_call column mach reynolds) words.old (lent cells.old marks.old) result words.new bits.new (lent cells.new marks.new) }
 {
-    cobalnis::cobalnis_set_column(words, column, mach, reynolds, cells, bits)
+    cobalnis::cobalnis_set_column(words, column, mach, reynolds, cells, marks, bits)
 }
 
 #[unsafe(no_mangle)]
@@ -173,22 +181,24 @@ pub extern "C" fn cobalnis_ignite(
     words: &mut [u64; SHEET_WORDS],
     nozzle_diameter: f64,
     cells: &mut [f64],
+    marks: &mut [u8],
     bits: &mut u64,
 ) -> u32
-    ensures { CallDone (sheet_known words.old) (ignite_call nozzle_diameter) words.old cells.old result words.new bits.new cells.new }
+    ensures { CallDone (sheet_known words.old) (ignite_call nozzle_diameter) words.old (lent cells.old marks.old) result words.new bits.new (lent cells.new marks.new) }
 {
-    cobalnis::cobalnis_ignite(words, nozzle_diameter, cells, bits)
+    cobalnis::cobalnis_ignite(words, nozzle_diameter, cells, marks, bits)
 }
 
 #[unsafe(no_mangle)]
 pub extern "C" fn cobalnis_burnout(
     words: &mut [u64; SHEET_WORDS],
     cells: &mut [f64],
+    marks: &mut [u8],
     bits: &mut u64,
 ) -> u32
-    ensures { CallDone (sheet_known words.old) burnout_call words.old cells.old result words.new bits.new cells.new }
+    ensures { CallDone (sheet_known words.old) burnout_call words.old (lent cells.old marks.old) result words.new bits.new (lent cells.new marks.new) }
 {
-    cobalnis::cobalnis_burnout(words, cells, bits)
+    cobalnis::cobalnis_burnout(words, cells, marks, bits)
 }
 
 #[unsafe(no_mangle)]

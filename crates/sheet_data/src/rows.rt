@@ -37,3 +37,31 @@ impl<'a, T> Rows<'a, T> {
         &self.cells[from..end]
     }
 }
+
+// Both planes of a sheet: its cells, and their marks.
+#[derive(Clone, Copy, Drop)]
+pub struct Planes<'a> {
+    pub layout: Layout,
+    pub cells: &'a [f64],
+    pub marks: &'a [u8],
+    pub ghost there: { (needed layout.finishes layout.columns ≤ length cells.now) × (needed layout.finishes layout.columns ≤ length marks.now) },
+}
+
+impl<'a> Planes<'a> {
+    // The cells of a row, and their marks; past the last row none.
+    pub fn row(self, row: usize) -> (&'a [f64], &'a [u8])
+        ensures cells { row < all_rows self.entry.layout.finishes → result.0.now ≡ row_at self.entry.layout.columns self.entry.cells.now row }
+        ensures marks { row < all_rows self.entry.layout.finishes → result.1.now ≡ row_at self.entry.layout.columns self.entry.marks.now row }
+        ensures wide { row < all_rows self.entry.layout.finishes → length result.0.now ≡ self.entry.layout.columns }
+    {
+        let cells = Rows {
+            layout: self.layout,
+            cells: self.cells,
+        };
+        let marks = Rows {
+            layout: self.layout,
+            cells: self.marks,
+        };
+        (cells.row(row), marks.row(row))
+    }
+}

@@ -8,7 +8,7 @@ use Rattle.sheet_data.specs.Layout.{most_cells}
 use Rattle.cards.specs.Cards.{settings_at}
 use Rattle.card_run.specs.Run.{card_of, stream_from}
 use Rattle.card_run.proofs.NoCard.{no_bytes, other_streams}
-use Rattle.sheet_text.specs.Text.{ran_text, sheet_text, answer_text}
+use Rattle.sheet_text.specs.Text.{nothing_lent, ran_text, sheet_text, answer_text}
 
 -- mach, friction, base and total, a line feed after each and no space
 abbrev pub names_alone : List ℕ
@@ -21,8 +21,8 @@ names_alone =
 
 pub no_bytes_text : answer_text [] ≡ names_alone
 unfolding answer_text sheet_text
-no_bytes_text = ap ran_text (no_bytes (replicate most_cells 0·0))
+no_bytes_text = ap ran_text (no_bytes nothing_lent)
 
-pub other_texts : (s : List ℕ) → 0 < length s → answer_text s ≡ ran_text (stream_from s (card_of (settings_at s 0)) (replicate most_cells 0·0))
+pub other_texts : (s : List ℕ) → 0 < length s → answer_text s ≡ ran_text (stream_from s (card_of (settings_at s 0)) nothing_lent)
 unfolding answer_text
-other_texts s h = ap ran_text (other_streams (replicate most_cells 0·0) s h)
+other_texts s h = ap ran_text (other_streams nothing_lent s h)

@@ -10,11 +10,11 @@ use Rattle.elementary.specs.Constants.{0·0}
 use Rattle.sheet_data.specs.Layout.{most_cells}
 use Rattle.card_run.specs.Run.{stream_bytes}
 use Rattle.card_run.proofs.Prefix.{first_bytes}
-use Rattle.sheet_text.specs.Text.{most_text, answer_text, ran_text, printed, Printed, Answered}
+use Rattle.sheet_text.specs.Text.{nothing_lent, most_text, answer_text, ran_text, printed, Printed, Answered}
 
 pub text_of_first_bytes : (s : List ℕ) → answer_text s ≡ answer_text (take stream_bytes s)
 unfolding answer_text
-text_of_first_bytes s = ap ran_text (first_bytes s (replicate most_cells 0·0))
+text_of_first_bytes s = ap ran_text (first_bytes s nothing_lent)
 
 -- the text of what a buffer holds of a stream, where the buffer is long enough
 pub text_of_read : (input s : List ℕ) (n : ℕ) → stream_bytes ≤ length input → take (length input) s ≡ take n input → answer_text (take n input) ≡ answer_text s

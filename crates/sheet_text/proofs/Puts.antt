@@ -10,14 +10,15 @@ use lib.Seq.{sets, sets-eq}
 use borrow.Rule.Slice.PartMut.{put_mid}
 use Rattle.std.proofs.Common.{drop-drop, zero-add, add-one}
 use Rattle.std.proofs.lemmas.List.{drop-set, length-take}
-use lib.Dec.{ltb}
+use lib.Dec.{ltb, eqb}
 use borrow.Author.Tests.{le-ltb}
 use lib.Ieee.{Float, to_bits, binary64}
 use Rattle.sheet_data.specs.Layout.{most_columns}
 use Rattle.sheet_data.specs.Rows.{row_at}
 use Rattle.sheet_text.specs.declared.text.Text.{Text}
-use Rattle.sheet_text.specs.Bytes.{digits, space, line_feed, hex_digit, hex_digits, decimal, Prints}
-use Rattle.sheet_text.specs.Text.{number_text_size, numbered_text, most_text, number_text, numbers_text, line_text, numbered_name, row_line, row_lines, printed, Printed, answer_text}
+use Rattle.drag_sheet.specs.Planes.{Lent}
+use Rattle.sheet_text.specs.Bytes.{digits, space, plus, line_feed, hex_digit, hex_digits, decimal, Prints}
+use Rattle.sheet_text.specs.Text.{number_text_size, marked_text_size, numbered_text, most_text, number_text, mark_text, numbers_text, line_text, numbered_name, row_line, row_lines, printed, Printed, answer_text}
 
 -- two texts, one after the other
 pub sets_append : (vs ws xs : List ℕ) (i : ℕ) → sets xs i (vs ++ ws) ≡ sets (sets xs i vs) (i + length vs) ws
@@ -57,17 +58,26 @@ pub number_long : (x : Float) → length (number_text x) ≡ number_text_size
 unfolding number_text
 number_long x = ap suc (hex_long digits (to_bits binary64 x))
 
-pub numbers_long : (xs : List Float) → length (numbers_text xs) ≡ number_text_size * length xs
-unfolding numbers_text
-numbers_long [] = refl
-numbers_long (x ∷ xs) = let a = length-append (number_text x) (numbers_text xs) in let b = number_long x in let c = numbers_long xs in omega (arith, a, b, c)
+pub mark_long : (m : ℕ) → length (mark_text m) ≤ 1
+mark_long m = by_test (eqb m 0)
+  where
+    by_test : (t : Bool) → length (cond t [] (plus ∷ [])) ≤ 1
+    by_test true = omega arith
+    by_test false = omega arith
 
-pub line_long : (name : List ℕ) (xs : List Float) → length (line_text name xs) ≡ length name + number_text_size * length xs + 1
+pub numbers_long : (xs : List Float) (ms : List ℕ) → length (numbers_text xs ms) ≤ marked_text_size * length xs
+unfolding numbers_text
+numbers_long [] ms = omega arith
+numbers_long (x ∷ xs) [] = omega (arith, length-append (number_text x) (numbers_text xs []), number_long x, numbers_long xs [])
+numbers_long (x ∷ xs) (m ∷ ms) =
+    omega (arith, length-append (number_text x) (mark_text m ++ numbers_text xs ms), length-append (mark_text m) (numbers_text xs ms), number_long x, mark_long m, numbers_long xs ms)
+
+pub line_long : (name : List ℕ) (xs : List Float) (ms : List ℕ) → length (line_text name xs ms) ≤ length name + marked_text_size * length xs + 1
 unfolding line_text
-line_long name xs =
-    let a = length-append name (numbers_text xs ++ (line_feed ∷ [])) in
-    let b = length-append (numbers_text xs) (line_feed ∷ []) in
-    let c = numbers_long xs in
+line_long name xs ms =
+    let a = length-append name (numbers_text xs ms ++ (line_feed ∷ [])) in
+    let b = length-append (numbers_text xs ms) (line_feed ∷ []) in
+    let c = numbers_long xs ms in
     omega (arith, a, b, c)
 
 pub decimal_long : (n : ℕ) → length (decimal n) ≤ 2
@@ -83,8 +93,8 @@ name_long : (word : List ℕ) (numbered : Bool) (j : ℕ) → length (numbered_n
 name_long word true j = omega (arith, length-append word (space ∷ decimal j), decimal_long j)
 name_long word false j = omega arith
 
-pub row_long : (word : List ℕ) (numbered : Bool) (j : ℕ) (row : List Float) → length row ≤ most_columns → length (line_text (numbered_name word numbered j) row) ≤ numbered_text word
-row_long word numbered j row h = omega (arith, line_long (numbered_name word numbered j) row, name_long word numbered j)
+pub row_long : (word : List ℕ) (numbered : Bool) (j : ℕ) (row : List Float) (ms : List ℕ) → length row ≤ most_columns → length (line_text (numbered_name word numbered j) row ms) ≤ numbered_text word
+row_long word numbered j row ms h = omega (arith, line_long (numbered_name word numbered j) row ms, name_long word numbered j)
 
 -- ---- loops
 
@@ -102,20 +112,26 @@ pub hex_end : (n x : ℕ) (out : List ℕ) → n ≡ 0 → hex_digits n x ++ dro
 unfolding hex_digits
 hex_end n x out e = rw e
 
--- a loop over numbers: one number more
-numbers_suc : (row : List Float) (i : ℕ) (d : Float) → i < length row → numbers_text (take (suc i) row) ≡ numbers_text (take i row) ++ number_text (get_or row i d)
+-- a loop over numbers: one number more, with its mark
+numbers_suc : (row : List Float) (ms : List ℕ) (i : ℕ) (d : Float) → i < length row → numbers_text (take (suc i) row) ms ≡ numbers_text (take i row) ms ++ (number_text (get_or row i d) ++ mark_text (get_or ms i 0))
 unfolding numbers_text
-numbers_suc [] i d h = absurd (omega arith)
-numbers_suc (x ∷ xs) zero d h = append-nil (number_text x)
-numbers_suc (x ∷ xs) (suc i) d h =
-    ap (λ (t : List ℕ). number_text x ++ t) (numbers_suc xs i d (omega arith))
-    ∙ sym (append_assoc (number_text x) (numbers_text (take i xs)) (number_text (get_or xs i d)))
+numbers_suc [] ms i d h = absurd (omega arith)
+numbers_suc (x ∷ xs) [] zero d h = refl
+numbers_suc (x ∷ xs) (m ∷ ms) zero d h = ap (λ (t : List ℕ). number_text x ++ t) (append-nil (mark_text m))
+numbers_suc (x ∷ xs) [] (suc i) d h =
+    ap (λ (t : List ℕ). number_text x ++ t) (numbers_suc xs [] i d (omega arith))
+    ∙ sym (append_assoc (number_text x) (numbers_text (take i xs) []) (number_text (get_or xs i d) ++ mark_text (get_or [] i 0)))
+numbers_suc (x ∷ xs) (m ∷ ms) (suc i) d h =
+    let next = number_text (get_or xs i d) ++ mark_text (get_or ms i 0) in
+    ap (λ (t : List ℕ). number_text x ++ (mark_text m ++ t)) (numbers_suc xs ms i d (omega arith))
+    ∙ ap (λ (t : List ℕ). number_text x ++ t) (sym (append_assoc (mark_text m) (numbers_text (take i xs) ms) next))
+    ∙ sym (append_assoc (number_text x) (mark_text m ++ numbers_text (take i xs) ms) next)
 
-pub numbers_more : (row : List Float) (i : ℕ) (d : Float) → i < length row → numbers_text (take (i + 1) row) ≡ numbers_text (take i row) ++ number_text (get_or row i d)
-numbers_more row i d h = rw (add-one i) (numbers_suc row i d h)
+pub numbers_more : (row : List Float) (ms : List ℕ) (i : ℕ) (d : Float) → i < length row → numbers_text (take (i + 1) row) ms ≡ numbers_text (take i row) ms ++ (number_text (get_or row i d) ++ mark_text (get_or ms i 0))
+numbers_more row ms i d h = rw (add-one i) (numbers_suc row ms i d h)
 
 -- one row's line more
-module _ (word : List ℕ) (numbered : Bool) (first C : ℕ) (cells : List Float) where
+module _ (word : List ℕ) (numbered : Bool) (first C : ℕ) (cells : Lent) where
   abbrev line : ℕ → List ℕ
   line j = row_line word numbered first j C cells
 
@@ -137,7 +153,7 @@ module _ (word : List ℕ) (numbered : Bool) (first C : ℕ) (cells : List Float
   lines_long zero j h = omega arith
   lines_long (suc n) j h =
       let a = length-append (line j) (lines n (j + 1)) in
-      let b : length (row_at C cells (first + j)) ≤ most_columns = omega (arith, length-take C (drop ((first + j) * C) cells)) in
+      let b : length (row_at C cells.cells (first + j)) ≤ most_columns = omega (arith, length-take C (drop ((first + j) * C) cells.cells)) in
       let c = lines_long n (j + 1) h in
       omega (arith, a, b, row_long, c, mul-suc (numbered_text word) n)
 

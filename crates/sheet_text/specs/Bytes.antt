@@ -6,6 +6,9 @@ use Rattle.sheet_text.specs.declared.text.Text.{Text}
 abbrev pub space : ℕ
 space = 32
 
+abbrev pub plus : ℕ
+plus = 43
+
 -- "Every line ends in a line feed"
 abbrev pub line_feed : ℕ
 line_feed = 10

@@ -1,8 +1,8 @@
 // A text that is printed into lent bytes: bytes, numbers and lines, each after what was printed before.
-ghost use Rattle.std.specs.Prelude.{◌≡◌, [], ◌∷◌, ◌++◌, ◌+◌, ◌≤◌, ◌<◌, length};
+ghost use Rattle.std.specs.Prelude.{◌≡◌, [], ◌∷◌, ◌++◌, ◌+◌, ◌≤◌, ◌<◌, length, get_or};
 ghost use Rattle.sheet_data.specs.Layout.{most_columns};
 ghost use Rattle.sheet_text.specs.Bytes.{digits, line_feed, hex_digit, hex_digits, decimal, Room, Prints};
-ghost use Rattle.sheet_text.specs.Text.{number_text_size, row_text, number_text, numbers_text, line_text};
+ghost use Rattle.sheet_text.specs.Text.{number_text_size, row_text, number_text, mark_text, numbers_text, line_text};
 
 // The hexadecimal digits of 64 bits.
 pub(crate) const DIGITS: usize = 64 / 4;
@@ -41,6 +41,13 @@ fn hex_digits(x: u64) -> [u8; DIGITS]
     out
 }
 
+// A mark of a row; past the last one there is none.
+fn mark_at(marks: &[u8], k: usize) -> u8
+    ensures { result ≡ get_or marks.now k 0 }
+{
+    if k < marks.len() { marks[k] } else { 0 }
+}
+
 impl Text<'_> {
     #[tactic(auto, using(crate::proofs::Puts::put_there))]
     pub(crate) fn bytes(&mut self, bytes: &[u8])
@@ -75,23 +82,36 @@ impl Text<'_> {
         self.bytes(&hex_digits(elementary::to_bits(x)));
     }
 
-    // The numbers of a row, and the end of the line. That they are few stands in three contracts: rows come from a sheet, Machs from its settings.
-    pub(crate) fn numbers(&mut self, row: &[f64])
-        requires { (length row.now ≤ most_columns) × Room row_text self.old }
-        ensures { Prints (numbers_text row.now ++ (line_feed ∷ [])) self.old self.new }
+    // A `+` for a mark that isn't 0.
+    #[tactic(auto, using(crate::proofs::Puts::prints_none))]
+    fn mark(&mut self, mark: u8)
+        requires { Room 1 self.old }
+        ensures { Prints (mark_text mark) self.old self.new }
     {
-        for x in row {
+        if mark != 0 {
+            self.bytes(b"+");
+        }
+    }
+
+    // The numbers of a row with their marks, and the end of the line. Machs have no marks. That the numbers are few stands in three contracts: rows come from a
+    // sheet, Machs from its settings.
+    pub(crate) fn numbers(&mut self, row: &[f64], marks: &[u8])
+        requires { (length row.now ≤ most_columns) × Room row_text self.old }
+        ensures { Prints (numbers_text row.now marks.now ++ (line_feed ∷ [])) self.old self.new }
+    {
+        for (k, x) in row.iter().enumerate() {
             self.number(*x);
+            self.mark(mark_at(marks, k));
         }
         self.bytes(b"\n");
     }
 
-    // A name, and the numbers of a row.
-    pub(crate) fn line(&mut self, name: &[u8], row: &[f64])
+    // A name, and the numbers of a row with their marks.
+    pub(crate) fn line(&mut self, name: &[u8], row: &[f64], marks: &[u8])
         requires { (length row.now ≤ most_columns) × Room (length name.now + row_text) self.old }
-        ensures { Prints (line_text name.now row.now) self.old self.new }
+        ensures { Prints (line_text name.now row.now marks.now) self.old self.new }
     {
         self.bytes(name);
-        self.numbers(row);
+        self.numbers(row, marks);
     }
 }

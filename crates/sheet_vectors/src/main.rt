@@ -348,8 +348,10 @@ impl State {
     // The number of the words, the cells and, where they count, as many marks.
     fn number(&self) -> u64 {
         let h = number_of(&self.words, &self.cells);
-        let counted = if self.marked { cells_of(&self.words) } else { 0 };
-        let marks = self.marks.iter().take(counted);
+        if !self.marked {
+            return h;
+        }
+        let marks = self.marks.iter().take(cells_of(&self.words));
         marks.fold(h, |h, mark| mixed(h, u64::from(*mark)))
     }
 

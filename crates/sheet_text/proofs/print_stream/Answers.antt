@@ -5,7 +5,8 @@ use Rattle.elementary.specs.Constants.{0·0}
 use Rattle.sheet_data.specs.Layout.{most_cells}
 use Rattle.card_run.specs.Run.{stream_of}
 use Rattle.card_run.specs.declared.Run.{Run}
-use Rattle.sheet_text.specs.Text.{run_text, answer_text}
+use Rattle.drag_sheet.specs.Planes.{Lent, lent}
+use Rattle.sheet_text.specs.Text.{nothing_lent, run_text, answer_text}
 use Rattle.sheet_text.proofs.Puts.{printed_long}
 use Rattle.sheet_text.proofs.print_stream.Goals as goal
 
@@ -13,6 +14,7 @@ pub returns : goal.returns
 unfolding answer_text
 returns c =
     let u = c.run_stream-run in
-    let ran = stream_of c.args.s.now (replicate most_cells 0·0) in
-    let e : run_text u.result u.new.cells ≡ answer_text c.args.s.now = ap (λ (r : Run). run_text r u.new.cells) u.ensures.answer ∙ ap (λ (ys : List Float). run_text ran.run ys) u.ensures.left in
+    let ran = stream_of c.args.s.now nothing_lent in
+    let left = lent u.new.cells u.new.marks in
+    let e : run_text u.result left ≡ answer_text c.args.s.now = ap (λ (r : Run). run_text r left) u.ensures.answer ∙ ap (λ (ys : Lent). run_text ran.run ys) u.ensures.left in
     printed_long c.run.ensures c.if-out-lt-MOST_TEXT.false refl e (search rules)

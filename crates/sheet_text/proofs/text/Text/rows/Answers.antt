@@ -14,5 +14,6 @@ pub loop-number-preserved : goal.loop-number-preserved
 loop-number-preserved c =
     let l = c.loop-number in
     let a = c.args in
-    let p = rw (c.row.ensures.cells (omega arith)) at c.row-in-loop-number.ensures in
+    let row = c.row.ensures in
+    let p = rw (row.cells (omega arith), row.marks (omega arith)) at c.row-in-loop-number.ensures in
     (omega (arith, l.invariant.0, c.row-in-loop-number.ensures.place, row_long, mul-suc (numbered_text a.name.now) l.number, add-one l.number), rw lines_more (prints_then l.invariant.1 p))
