@@ -71,14 +71,13 @@ enum {
 
 /* What cobalnis_print needs: a line for Mach, each place, base, and the
  * friction and the total of each finish, of a name, a space and two digits
- * where there are several of them, a space and 16 digits a column, a sign after
- * those of a cell that is marked, and a line feed. */
+ * where there are several of them, a space, 16 digits and a sign a column (the
+ * line for Mach has no signs, but counts as the others), and a line feed. */
 enum {
-    COBALNIS_MACH_TEXT = COBALNIS_COLUMNS * 17 + 1,
     COBALNIS_ROW_TEXT = COBALNIS_COLUMNS * 18 + 1,
-    COBALNIS_LONGEST_TEXT = 4 + COBALNIS_MACH_TEXT + (4 + 3) * COBALNIS_PLACES
+    COBALNIS_LONGEST_TEXT = 4 + (4 + 3) * COBALNIS_PLACES
                             + (8 + 3 + 5 + 3) * COBALNIS_FINISHES + 4
-                            + COBALNIS_ROWS * COBALNIS_ROW_TEXT
+                            + (1 + COBALNIS_ROWS) * COBALNIS_ROW_TEXT
 };
 
 /* Refusal numbers (docs/REFERENCE.md, Refusals). */

@@ -23,14 +23,13 @@ pub const fn rows(finishes: usize) -> usize {
 const FRICTION: usize = PLACES;
 
 /// What [`print`] needs: a line for Mach, each place, base, and the friction and the total of each
-/// finish, of a name, a space and two digits where there are several of them, a space and 16 digits a
-/// column, a sign after those of a cell that is marked, and a line feed.
+/// finish, of a name, a space and two digits where there are several of them, a space, 16 digits and a
+/// sign a column (the line for Mach has no signs, but counts as the others), and a line feed.
 pub const LONGEST_TEXT: usize = 4
-    + (COLUMNS * 17 + 1)
     + (4 + 3) * PLACES
     + (8 + 3 + 5 + 3) * FINISHES
     + 4
-    + rows(FINISHES) * (COLUMNS * 18 + 1);
+    + (1 + rows(FINISHES)) * (COLUMNS * 18 + 1);
 
 /// One column: what the drag is asked at.
 #[derive(Debug, Clone, Copy, PartialEq)]

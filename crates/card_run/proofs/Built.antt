@@ -8,7 +8,6 @@ use Prim.Native.Nat.{ℕ, zero, suc, ◌+◌, ◌-◌, ◌≤◌}
 use native.Mathlib.Omega.{arith}
 use lib.ListN.{length, length-append}
 use lib.Seq.{take-length, drop-length}
-use lib.Ieee.{Float}
 use borrow.Author.Tests.{le-ltb, lt-ltb}
 use Rattle.aero_error.specs.Told.{all_told_apart}
 use Rattle.sheet_data.specs.declared.Settings.{Settings}

@@ -6,7 +6,7 @@ use Prim.Native.Nat.{ℕ, ◌≤◌, ◌<◌}
 use native.Mathlib.Omega.{arith}
 use lib.ListN.{length, drop}
 use Rattle.elementary.specs.Constants.{0·0}
-use lib.Ieee.{Float, le, of_bits}
+use lib.Ieee.{le, of_bits}
 use borrow.Author.Tests.{le-ltb}
 use Rattle.elementary.specs.Tests.{between}
 use Rattle.aero_error.specs.Checks.{dimension, up_to}

@@ -10,7 +10,6 @@ use Prim.Native.Nat.{ℕ, zero, suc, ◌+◌, ◌-◌, ◌≤◌, ◌<◌}
 use native.Mathlib.Omega.{arith}
 use lib.ListN.{length}
 use lib.Dec.{ltb}
-use lib.Ieee.{Float}
 use borrow.Author.Tests.{le-ltb, ltb-true, ltb-false, lt-ltb}
 use Rattle.aero_error.specs.declared.AeroError.{AeroError}
 use Rattle.sheet_data.specs.declared.Settings.{Settings}

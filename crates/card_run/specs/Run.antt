@@ -2,7 +2,7 @@
 -- first refusal". Each card is read whole before its call. A stream of no bytes has settings of its own. What a call decides and leaves is `drag_sheet`'s own
 -- definition of it.
 use Rattle.cards.specs.Fields.{Read}
-use Rattle.std.specs.Prelude.{◌≡◌, cond, List, [], ◌∷◌, ℕ, zero, suc, ◌+◌, ◌*◌, ◌≤◌, length, replicate, ltb, Float, Ok, Err}
+use Rattle.std.specs.Prelude.{◌≡◌, cond, List, [], ◌∷◌, ℕ, zero, suc, ◌+◌, ◌*◌, ◌≤◌, length, replicate, ltb, Ok, Err}
 use Rattle.aero_error.specs.Checks.{Check}
 use Rattle.elementary.specs.Constants.{0·0, 1·0}
 use Rattle.aero_error.specs.declared.AeroError.{AeroError}

@@ -2,13 +2,11 @@
 use Rattle.std.specs.Prelude.{Ok, Err}
 use Rattle.aero_error.specs.Checks.{unless, Check}
 use mathlib.Core.Path.{◌≡◌, refl, ap, ◌∙◌}
-use mathlib.Core.List.{List}
 use Prim.Native.Nat.{ℕ, ◌≤◌, ◌<◌}
 use native.Mathlib.Omega.{arith}
 use lib.ListN.{length, drop}
 use lib.Seq.{take_at}
 use lib.Dec.{ltb, leb}
-use lib.Ieee.{Float}
 use borrow.Author.Tests.{ltb-false, leb-false}
 use Rattle.aero_error.specs.declared.AeroError.{AeroError}
 use Rattle.aero_error.specs.declared.Rule.TheVariants.{TooManyColumns, DesignFull, NoSuchPlace}

@@ -8,7 +8,7 @@ use mathlib.Core.List.{List}
 use Prim.Native.Nat.{ℕ, ◌+◌, ◌-◌, ◌≤◌, ◌<◌}
 use native.Mathlib.Decide.{dec_lt, ℕ_discrete}
 use native.Mathlib.Omega.{arith}
-use lib.ListN.{length, drop, set, length-set, length-take}
+use lib.ListN.{length, set, length-set, length-take}
 use lib.Seq.{length-take-le}
 use lib.Ieee.{Float}
 use Rattle.aero_error.specs.declared.AeroError.{AeroError}

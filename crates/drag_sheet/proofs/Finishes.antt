@@ -1,17 +1,16 @@
 -- A sheet of F finishes side by side. "Part rows and base are shared": with each of its finishes it is the sheet of one finish that has that roughness (`side_by_side`), and of
 -- one finish the rows are those of document 01 (`one_finish`). "A part's own roughness holds in every finish" (`own_everywhere`).
 use Rattle.std.specs.Prelude.{is_some, Some, Option, None}
-use mathlib.Core.Path.{◌≡◌, refl, ap}
+use mathlib.Core.Path.{◌≡◌, refl}
 use mathlib.Core.Bool.{true, false≢true}
 use mathlib.Core.List.{[], ◌∷◌}
 use Prim.Native.Nat.{ℕ, ◌-◌, ◌<◌}
 use native.Mathlib.Omega.{arith}
 use lib.ListN.{length}
 use lib.Ieee.{Float}
-use Rattle.elementary.specs.Arithmetic.{◌⊕◌}
 use Rattle.sheet_data.specs.declared.Settings.{Settings}
 use Rattle.sheet_data.specs.Layout.{friction_row, base_row, total_row}
-use Rattle.sheet_data.specs.Contents.{Contents, part_at, roughness_at, mach_at, reynolds_at}
+use Rattle.sheet_data.specs.Contents.{Contents, part_at, roughness_at}
 use Rattle.drag_sheet.specs.Formulas.{any_to, roughness_of, friction_cell, base_cell}
 use Rattle.drag_sheet.specs.Planes.{Plane, total_of, cell_plane, mark_plane}
 use Rattle.drag_sheet.specs.Build.{part, friction, base, total, kind_at, kind_cell, part_cell, cell_at}

@@ -8,7 +8,6 @@ use Prim.Native.Nat.{ℕ, ◌≤◌}
 use native.Mathlib.Omega.{arith}
 use lib.ListN.{length, drop, length-set, length-append, length-drop}
 use lib.Seq.{length-take-le}
-use lib.Ieee.{Float}
 use Rattle.aero_error.specs.declared.AeroError.{AeroError}
 use Rattle.aero_error.specs.CheckLaws.{then_assoc}
 use Rattle.aero_error.specs.Told.{told}

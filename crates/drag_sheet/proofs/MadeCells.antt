@@ -9,7 +9,6 @@ use Prim.Native.Nat.{ℕ}
 use native.Mathlib.Omega.{arith}
 use lib.Ieee.{Float}
 use Rattle.elementary.specs.Arithmetic.{◌⊗◌}
-use Rattle.elementary.specs.Constants.{0·0}
 use Rattle.aero_error.specs.declared.AeroError.{AeroError}
 use Rattle.nose_drag.specs.declared.curve.PressureDrag.{PressureDrag}
 use Rattle.nose_drag.specs.declared.curve.PressureDragCurve.{PressureDragCurve}

@@ -7,7 +7,7 @@ use native.Mathlib.Numerals.{add-one}
 use native.Mathlib.Decide.{dec_lt}
 use native.Mathlib.Omega.{arith}
 use lib.ListN.{length, get_or, replicate}
-use Rattle.sheet_data.specs.Layout.{most_parts, friction_row, base_row, total_row}
+use Rattle.sheet_data.specs.Layout.{most_parts, friction_row, base_row}
 use Rattle.sheet_data.specs.Contents.{Contents}
 use Rattle.sheet_data.specs.Tables.{tab, tab_long, tab_at, tab_same, tab_constant}
 use Rattle.sheet_data.specs.Rows.{from, row_at, rows_written}

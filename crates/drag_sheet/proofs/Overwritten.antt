@@ -8,7 +8,7 @@ use native.Mathlib.Decide.{dec_lt}
 use native.Mathlib.Omega.{arith}
 use lib.ListN.{length, get_or, take, drop, set, length-set, length-drop}
 use lib.Seq.{take_at, drop_at, length-take-le}
-use Rattle.sheet_data.specs.Layout.{most_parts, friction_row, base_row, total_row, all_rows, needed}
+use Rattle.sheet_data.specs.Layout.{friction_row, base_row, total_row, all_rows, needed}
 use Rattle.sheet_data.specs.Contents.{Contents, mach_at, reynolds_at}
 use Rattle.sheet_data.specs.Tables.{tab, tab_long, tab_at, tab_same, tab_set}
 use Rattle.sheet_data.specs.Rows.{from, Unnamed, Below, row_at, written, rows_written}
@@ -16,7 +16,6 @@ use Rattle.sheet_data.specs.RowLaws.{room, before_named, before_all, below_more,
 use Rattle.drag_sheet.specs.Planes.{Plane}
 use Rattle.drag_sheet.specs.Build.{part_cell, kind_cell, cell_at, row_of, build}
 use Rattle.drag_sheet.specs.Writing.{Scope, rows, column, whole, there, total_there, totalled, overwritten}
-use Rattle.drag_sheet.specs.Formulas.{sum_same}
 use Rattle.drag_sheet.proofs.RowKinds.{kind_part, kind_friction, kind_base, kind_total, row_wide}
 
 -- the cells hold a build of the contents, and whatever follows it

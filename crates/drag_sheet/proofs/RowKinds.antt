@@ -12,7 +12,6 @@ use Rattle.sheet_data.specs.Layout.{most_parts, friction_row, base_row, total_ro
 use Rattle.sheet_data.specs.declared.Part.{Part}
 use Rattle.sheet_data.specs.Contents.{Contents, fore_at, part_taken}
 use Rattle.sheet_data.specs.Tables.{tab_long, tab_same, tab_constant}
-use Rattle.elementary.specs.Constants.{0·0}
 use Rattle.drag_sheet.specs.Formulas.{friction_cell}
 use Rattle.drag_sheet.specs.Planes.{Plane}
 use Rattle.drag_sheet.specs.Build.{part, friction, base, total, kind_at, prepared_at, part_cell, kind_cell, row_from, row_test, trial, row_of}

@@ -6,7 +6,6 @@ use mathlib.Core.List.{List}
 use Prim.Native.Nat.{ℕ, ◌≤◌}
 use lib.ListN.{length, take, get_or, replicate}
 use Rattle.std.proofs.lemmas.List.{take-replicate}
-use Rattle.elementary.specs.Constants.{0·0}
 use Rattle.sheet_data.specs.Layout.{most_columns}
 use lib.Seq.{length-take-le, get_or-take}
 use lib.Ieee.{Float, nan}
@@ -15,7 +14,7 @@ use Rattle.sheet_data.specs.declared.Settings.{Settings}
 use Rattle.sheet_data.specs.Contents.{mach_at}
 use Rattle.sheet_data.specs.Tables.{tab, tab_same}
 use Rattle.drag_sheet.specs.declared.part.Row.{Row}
-use Rattle.drag_sheet.specs.Formulas.{cell_of, made_test, value_of}
+use Rattle.drag_sheet.specs.Formulas.{cell_of, made_test}
 use Rattle.drag_sheet.specs.Planes.{Plane}
 use Rattle.drag_sheet.specs.Build.{row_test_from, row_from}
 use Rattle.drag_sheet.specs.Writing.{Filled}

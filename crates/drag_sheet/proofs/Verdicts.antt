@@ -5,7 +5,6 @@ use mathlib.Core.Path.{◌≡◌, sym, ◌∙◌}
 use mathlib.Core.List.{List}
 use Prim.Native.Nat.{ℕ}
 use native.Mathlib.Omega.{arith}
-use lib.Ieee.{Float}
 use Rattle.aero_error.specs.declared.AeroError.{AeroError}
 use Rattle.drag_sheet.specs.Writing.{Filled, chosen}
 

@@ -1,6 +1,6 @@
 -- Demand 3, stated: an open with whatever settings, cells and marks, and from an accepted one every list of replace, insert, remove, column, ignite and burnout
 -- calls, refused ones anywhere in it.
-use Rattle.std.specs.Prelude.{◌≡◌, List, [], ◌∷◌, map, length, take, drop, Float, Ok, Err}
+use Rattle.std.specs.Prelude.{◌≡◌, List, [], ◌∷◌, map, length, take, drop, Ok, Err}
 use Rattle.aero_error.specs.Checks.{Check}
 use Rattle.aero_error.specs.declared.AeroError.{AeroError}
 use Rattle.aero_error.specs.Told.{told}

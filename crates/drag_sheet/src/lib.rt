@@ -43,7 +43,11 @@ fn write_blank(settings: Settings, cells: &mut [f64], marks: &mut [u8]) -> Resul
 
 // Opens a sheet with these settings and no parts, and writes all its rows. Refused, it is that sheet too, and the cells stay: what is promised of the sheet
 // holds either way, so it is a pair and no `Result`.
-pub fn open(settings: Settings, cells: &mut [f64], marks: &mut [u8]) -> (Sheet, Result<(), AeroError>)
+pub fn open(
+    settings: Settings,
+    cells: &mut [f64],
+    marks: &mut [u8],
+) -> (Sheet, Result<(), AeroError>)
     ensures { Opened settings (lent cells.old marks.old) (record { outcome = result.1; sheet = result.0 }) (lent cells.new marks.new) }
 {
     let outcome = write_blank(settings, cells, marks);
@@ -86,7 +90,12 @@ fn check_remove(sheet: Sheet, place: usize, cells: usize) -> Result<(), AeroErro
 
 // Removes the part at a place; the parts after it move down one. All rows are written. As `insert` but for its test and its edit: a function over both
 // would be no shorter.
-pub fn remove(sheet: &mut Sheet, place: usize, cells: &mut [f64], marks: &mut [u8]) -> Result<(), AeroError>
+pub fn remove(
+    sheet: &mut Sheet,
+    place: usize,
+    cells: &mut [f64],
+    marks: &mut [u8],
+) -> Result<(), AeroError>
     ensures { Called (remove_call place) sheet.old (lent cells.old marks.old) (record { outcome = result; sheet = sheet.new }) (lent cells.new marks.new) }
 {
     check_remove(*sheet, place, marked(cells, marks))?;
@@ -205,7 +214,14 @@ fn write_changed(
     let mut own_marks = [0u8; COLUMNS];
     row_at(sheet, place, &mut own[..count], &mut own_marks[..count])?;
     if place + 1 < sheet.design.count {
-        return write_two(sheet, place, &own[..count], &own_marks[..count], cells, marks);
+        return write_two(
+            sheet,
+            place,
+            &own[..count],
+            &own_marks[..count],
+            cells,
+            marks,
+        );
     }
     let at = offset(layout_of(sheet.settings), place);
     write_row(at, &own[..count], cells);
@@ -234,12 +250,7 @@ pub fn replace(
 }
 
 // The sheet with another nozzle diameter; its base and total rows are written.
-fn put_nozzle(
-    sheet: Sheet,
-    nozzle_diameter: f64,
-    cells: &mut [f64],
-    marks: &mut [u8],
-) -> Sheet
+fn put_nozzle(sheet: Sheet, nozzle_diameter: f64, cells: &mut [f64], marks: &mut [u8]) -> Sheet
     requires { Fits sheet (length cells.old) × Fits sheet (length marks.old) }
     ensures { NozzlePut nozzle_diameter sheet (lent cells.old marks.old) result (lent cells.new marks.new) }
 {
@@ -258,7 +269,12 @@ fn check_ignite(sheet: Sheet, nozzle_diameter: f64, cells: usize) -> Result<(), 
 }
 
 // Gives the nozzle's diameter, which fills part of the base, and writes the base and total rows.
-pub fn ignite(sheet: &mut Sheet, nozzle_diameter: f64, cells: &mut [f64], marks: &mut [u8]) -> Result<(), AeroError>
+pub fn ignite(
+    sheet: &mut Sheet,
+    nozzle_diameter: f64,
+    cells: &mut [f64],
+    marks: &mut [u8],
+) -> Result<(), AeroError>
     ensures { Called (ignite_call nozzle_diameter) sheet.old (lent cells.old marks.old) (record { outcome = result; sheet = sheet.new }) (lent cells.new marks.new) }
 {
     check_ignite(*sheet, nozzle_diameter, marked(cells, marks))?;

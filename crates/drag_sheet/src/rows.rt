@@ -189,7 +189,13 @@ fn part_rows(sheet: Sheet, cells: &mut [f64], marks: &mut [u8]) -> Result<(), Ae
     for (place, part) in design.parts[..design.count].iter().enumerate() {
         let at = offset(layout, place);
         let end = at + count;
-        part::part_row(settings, fore, *part, &mut cells[at..end], &mut marks[at..end])?;
+        part::part_row(
+            settings,
+            fore,
+            *part,
+            &mut cells[at..end],
+            &mut marks[at..end],
+        )?;
         fore = part.aft_diameter;
     }
     Ok(())

@@ -9,13 +9,15 @@
 //     l cobalnis_nose_lookup          nose, Mach                        status, value, slope, first Mach
 //     c cobalnis_curve at one Mach    shape, parameter, fineness,       status, coefficient, value refused, value at rest,
 //                                     joint angle, Mach                 transonic lower bound
+//     a cobalnis_nose_lookup's mark   nose, Mach                        status, mark
+//     b cobalnis_curve's mark         as c                              status, mark
 //
 // The list, `stdin` beside this folder, is made in compare/:
 //     cargo run --release --offline --bin formula_list > ../crates/formula_vectors/stdin
 #![tactic(auto)]
 
 ghost use Rattle.std.specs.Prelude.{◌≡◌};
-ghost use Rattle.formula_vectors.specs.Lines.{named, float_at, is_answer, formula_at, dimension_at, cone_at, point_at, lookup_at, curve_at, function_of, answer_of, slot_of_function, asked, line_agrees, kind_of, after_line};
+ghost use Rattle.formula_vectors.specs.Lines.{named, float_at, is_answer, formula_at, dimension_at, cone_at, point_at, lookup_of, lookup_status, lookup_at, lookup_mark_at, curve_of, curve_at, curve_mark_at, function_of, answer_of, slot_of_function, asked, line_agrees, kind_of, after_line};
 
 use cobalnis::{
     cobalnis_check_dimension, cobalnis_curve, cobalnis_formula, cobalnis_nose_lookup,
@@ -98,19 +100,36 @@ fn point(line: &[u8]) -> [u64; 5]
     [status as u64, out[0], out[1], 0, 0]
 }
 
+// A table read at a Mach: the status, and the four words that are written.
+fn looked_up(line: &[u8]) -> (u32, [u64; 4])
+    ensures { (result.0 ≡ lookup_status line.now) × (result.1 ≡ lookup_of line.now) }
+{
+    let nose = named(word_at(line, 0));
+    let mach = float_at(line, 1);
+    let mut out = [0u64; 4];
+    let status = cobalnis_nose_lookup(nose, mach, &mut out);
+    (status, out)
+}
+
 #[tactic(auto, unfolding(crate::specs::Lines::lookup_at))]
 fn lookup(line: &[u8]) -> [u64; 5]
     ensures { result ≡ lookup_at line.now }
 {
-    let nose = named(word_at(line, 0));
-    let mach = float_at(line, 1);
-    let mut out = [0u64; 3];
-    let status = cobalnis_nose_lookup(nose, mach, &mut out);
+    let (status, out) = looked_up(line);
     [status as u64, out[0], out[1], out[2], 0]
 }
 
-fn curve(line: &[u8]) -> [u64; 5]
-    ensures { result ≡ curve_at line.now }
+#[tactic(auto, unfolding(crate::specs::Lines::lookup_mark_at))]
+fn lookup_mark(line: &[u8]) -> [u64; 5]
+    ensures { result ≡ lookup_mark_at line.now }
+{
+    let (status, out) = looked_up(line);
+    [status as u64, out[3], 0, 0, 0]
+}
+
+// A curve at one Mach: the status, the coefficient, its mark, and what is said about the curve.
+fn curve_words(line: &[u8]) -> [u64; 6]
+    ensures { result ≡ curve_of line.now }
 {
     let shape = word_at(line, 0);
     let parameter = float_at(line, 1);
@@ -118,11 +137,35 @@ fn curve(line: &[u8]) -> [u64; 5]
     let angle = float_at(line, 3);
     let machs = [float_at(line, 4)];
     let mut out = [0u64; 1];
+    let mut marks = [0u8; 1];
     let mut about = [0u64; 3];
     let status = cobalnis_curve(
-        shape, parameter, fineness, angle, &machs, &mut out, &mut about,
+        shape, parameter, fineness, angle, &machs, &mut out, &mut marks, &mut about,
     );
-    [status as u64, out[0], about[0], about[1], about[2]]
+    [
+        status as u64,
+        out[0],
+        marks[0] as u64,
+        about[0],
+        about[1],
+        about[2],
+    ]
+}
+
+#[tactic(auto, unfolding(crate::specs::Lines::curve_at))]
+fn curve(line: &[u8]) -> [u64; 5]
+    ensures { result ≡ curve_at line.now }
+{
+    let [status, word, _, refused, rest, low] = curve_words(line);
+    [status, word, refused, rest, low]
+}
+
+#[tactic(auto, unfolding(crate::specs::Lines::curve_mark_at))]
+fn curve_mark(line: &[u8]) -> [u64; 5]
+    ensures { result ≡ curve_mark_at line.now }
+{
+    let words = curve_words(line);
+    [words[0], words[2], 0, 0, 0]
 }
 
 // ---- lines
@@ -136,6 +179,8 @@ enum Function {
     Point,
     Lookup,
     CurveAtMach,
+    LookupMark,
+    CurveMark,
 }
 
 impl Function {
@@ -150,6 +195,8 @@ impl Function {
             b'p' => Some(Function::Point),
             b'l' => Some(Function::Lookup),
             b'c' => Some(Function::CurveAtMach),
+            b'a' => Some(Function::LookupMark),
+            b'b' => Some(Function::CurveMark),
             _ => None,
         }
     }
@@ -165,6 +212,8 @@ impl Function {
             Function::Point => point(line),
             Function::Lookup => lookup(line),
             Function::CurveAtMach => curve(line),
+            Function::LookupMark => lookup_mark(line),
+            Function::CurveMark => curve_mark(line),
         }
     }
 
@@ -179,6 +228,8 @@ impl Function {
             Function::Point => 24,
             Function::Lookup => 25,
             Function::CurveAtMach => 26,
+            Function::LookupMark => 27,
+            Function::CurveMark => 28,
         }
     }
 }
@@ -227,7 +278,7 @@ impl Replay for Formulas {
 
 // ---- what is printed: the formulas by their numbers, then the other functions
 
-const NAMES: [&[u8]; 27] = [
+const NAMES: [&[u8]; 29] = [
     b"0 sqrt",
     b"1 ln",
     b"2 exp",
@@ -255,6 +306,8 @@ const NAMES: [&[u8]; 27] = [
     b"nose_point",
     b"nose_lookup",
     b"curve",
+    b"nose_lookup mark",
+    b"curve mark",
 ];
 
 fn main() {

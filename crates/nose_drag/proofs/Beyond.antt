@@ -1,5 +1,5 @@
--- Which shapes can be marked, and above which Mach number: `marked_where` says it of every curve that `new_curve` makes, at every Mach number that a curve takes. Of two
--- tables read side by side the one that ends first decides.
+-- Which shapes can be marked, and above which Mach number: `by_hand` computes it on either side of a table's end, `marked_where` says it of every curve that `new_curve`
+-- makes, at every Mach number that a curve takes. Of two tables read side by side the one that ends first decides.
 use Rattle.std.specs.Prelude.{Ok, Err, Some, None, Option}
 use Rattle.aero_error.specs.Checks.{◌for_value◌, Coefficient}
 use Rattle.aero_error.specs.declared.AeroError.TheVariants.{Broken}
@@ -11,22 +11,26 @@ use Rattle.nose_drag.specs.Answered.{curve_answered}
 use mathlib.Core.Path.{◌≡◌, refl, sym, ap, ◌∙◌, subst}
 use mathlib.Core.Bool.{Bool, true, false, cond, ◌||◌, ◌&&◌}
 use lib.Dec.{T}
+use mathlib.Core.List.{[], ◌∷◌}
+use Prim.Native.Nat.{ℕ}
 use lib.Ieee.{Float, nan, inf, fin, of_bits, round, sum, neg, add, sub, mul, div, lt, eq, le}
 use lib.Ieee.Scale.{finite}
-use lib.Ieee.Bits.{is_true}
 use lib.Ieee.Positive.{positive, above, above_of_le}
-use Rattle.elementary.specs.Arithmetic.{◌≺◌, ◌≼◌, ◌≈◌, ◌⊗◌, ◌⊘◌, ◌⊕◌}
+use Rattle.elementary.specs.Arithmetic.{◌≺◌, ◌≼◌, ◌≈◌, ◌⊘◌, ◌⊕◌}
 use Rattle.elementary.specs.Constants.{ln_2, 0·0, 0·5, 0·8, 1·0}
 use Rattle.elementary.specs.Steps.{LN}
 use Rattle.nose_drag.specs.Forms.{sin_half_angle}
 use Rattle.elementary.specs.Order.{not_above, lt_le, lt_through}
+use Rattle.elementary.specs.Tests.{between}
+use Rattle.aero_error.specs.Checks.{dimension}
+use Rattle.drag.specs.Pressure.{joint_pressure_drag_coefficient}
 use Rattle.drag.specs.Constants.{0·25, 3·0}
 use Rattle.shapes.specs.declared.NoseShape.{NoseShape}
 use Rattle.shapes.specs.declared.NoseShape.TheVariants.{Conical, Ogive, Elliptical, PowerSeries, ParabolicSeries, Haack}
 use Rattle.stoney.specs.declared.StoneyNose.{StoneyNose}
 use Rattle.stoney.specs.declared.StoneyNose.TheVariants
 use Rattle.stoney.specs.Points.{points, first_mach}
-use Rattle.stoney.specs.Lookup.{beyond}
+use Rattle.stoney.specs.Lookup.{past_end, beyond}
 use Rattle.stoney.specs.Segments.{last_mach}
 use Rattle.stoney.proofs.Beyond.{beyond_is}
 use Rattle.nose_drag.specs.declared.curve.Reference.{Reference}
@@ -34,9 +38,31 @@ use Rattle.nose_drag.specs.declared.curve.Transonic.{Transonic}
 use Rattle.nose_drag.specs.declared.builder.Bracket.{Bracket}
 use Rattle.nose_drag.specs.declared.curve.PressureDragCurve.{PressureDragCurve}
 use Rattle.nose_drag.specs.Constants.{0·75}
-use Rattle.nose_drag.specs.Curves.{cone_3, power_bracket, parabolic_bracket, weight_of, cone_curve, step_curve, from_transonic, shaped, ogive, new_curve, curve_at, Curve}
-use Rattle.nose_drag.specs.Between.{Between, between_method, between_low, power_between, parabolic_between, haack_between, Made, made, record_method, built, none_built}
+use Rattle.nose_drag.specs.Curves.{cone_3, power_bracket, parabolic_bracket, weight_of, interpolated, between_references, cone_curve, step_curve, from_transonic, shaped, ogive, power, parabolic, haack, build, recorded, new_curve, curve_at, Curve}
+use Rattle.nose_drag.specs.Between.{Between, between_method, between_low, power_between, parabolic_between, haack_between, made, record_method, built, none_built}
 use Rattle.nose_drag.specs.Beyond.{reference_beyond, ellipsoid_beyond, method_beyond, curve_beyond, drag_of, thousandths, marked_above, is_above}
+
+-- ---- by hand: a nose of fineness 3 with a smooth joint, at one Mach number
+
+abbrev marked : Curve → Float → Bool
+marked (Ok curve) M = curve_beyond curve M
+marked (Err e) M = false
+
+abbrev asked : NoseShape → ℕ → Bool
+asked shape M = marked (new_curve shape 3·0 0·0) (thousandths M)
+
+-- the table of weight 0 counts: at 1/4 that of x^1/2, at K' = 3/4 the three-quarter parabola's beside the full one's, at C = 0 that of L-V Haack; and none does at or below its last Mach
+pub by_hand :
+    asked (PowerSeries 0·25) 1941 ∷ asked (PowerSeries 0·25) 1942 ∷ asked (PowerSeries 0·0) 3587 ∷ asked (PowerSeries 0·0) 3588 ∷
+    asked (PowerSeries 1·0) 1967 ∷ asked (PowerSeries 1·0) 1968 ∷ asked (ParabolicSeries 1·0) 1968 ∷ asked (ParabolicSeries 1·0) 1969 ∷
+    asked (Haack 0·0) 1977 ∷ asked (Haack 0·0) 1978 ∷ asked Elliptical 1100 ∷ asked Elliptical 3587 ∷ asked Elliptical 3588 ∷ asked Conical 9000 ∷ asked (Ogive 1·0) 9000 ∷ []
+    ≡
+    false ∷ true ∷ false ∷ true ∷
+    false ∷ true ∷ false ∷ true ∷
+    false ∷ true ∷ false ∷ false ∷ true ∷ false ∷ false ∷ []
+unfolding curve_beyond ellipsoid_beyond beyond past_end points new_curve build recorded power parabolic haack ogive cone_curve power_bracket parabolic_bracket between_references weight_of interpolated from_transonic
+    ogive_pressure_drag_factor joint_pressure_drag_coefficient dimension between of_bits round sub add sum neg mul div lt le eq
+by_hand = refl
 
 -- ---- of two last Machs the lower one decides
 
@@ -142,9 +168,9 @@ module _ (M : Float) where
     where
       by : (a b c : Bool) → (T b → T c)
           → both_beyond (cond a (record { lower = Reference.Blunt; upper = Reference.Stoney TheVariants.PowerQuarter; low = 0·0; high = 0·25 })
-              (cond b (record { lower = Reference.Stoney TheVariants.PowerQuarter; upper = Reference.Stoney TheVariants.PowerHalf; low = 0·25; high = 0·5 })
-              (cond c (record { lower = Reference.Stoney TheVariants.PowerHalf; upper = Reference.Stoney TheVariants.PowerThreeQuarters; low = 0·5; high = 0·75 })
-              (record { lower = Reference.Stoney TheVariants.PowerThreeQuarters; upper = cone_3; low = 0·75; high = 1·0 }))))
+          (cond b (record { lower = Reference.Stoney TheVariants.PowerQuarter; upper = Reference.Stoney TheVariants.PowerHalf; low = 0·25; high = 0·5 })
+          (cond c (record { lower = Reference.Stoney TheVariants.PowerHalf; upper = Reference.Stoney TheVariants.PowerThreeQuarters; low = 0·5; high = 0·75 })
+          (record { lower = Reference.Stoney TheVariants.PowerThreeQuarters; upper = cone_3; low = 0·75; high = 1·0 }))))
           ≡ is_above (cond a (Some (thousandths 3587)) (cond c (Some (thousandths 1941)) (Some (thousandths 1967)))) M
       by true b c h = ends TheVariants.PowerQuarter
       by false true true h = second_of TheVariants.PowerQuarter TheVariants.PowerHalf tt tt tt
@@ -158,8 +184,8 @@ module _ (M : Float) where
     where
       by : (a b : Bool)
           → both_beyond (cond a (record { lower = cone_3; upper = Reference.Stoney TheVariants.ParabolaHalf; low = 0·0; high = 0·5 })
-              (cond b (record { lower = Reference.Stoney TheVariants.ParabolaHalf; upper = Reference.Stoney TheVariants.ParabolaThreeQuarters; low = 0·5; high = 0·75 })
-              (record { lower = Reference.Stoney TheVariants.ParabolaThreeQuarters; upper = Reference.Stoney TheVariants.Parabola; low = 0·75; high = 1·0 })))
+          (cond b (record { lower = Reference.Stoney TheVariants.ParabolaHalf; upper = Reference.Stoney TheVariants.ParabolaThreeQuarters; low = 0·5; high = 0·75 })
+          (record { lower = Reference.Stoney TheVariants.ParabolaThreeQuarters; upper = Reference.Stoney TheVariants.Parabola; low = 0·75; high = 1·0 })))
           ≡ (thousandths 1968 ≺ M)
       by true b = ends TheVariants.ParabolaHalf
       by false true = rw (ends TheVariants.ParabolaHalf, ends TheVariants.ParabolaThreeQuarters) (or_lower (thousandths 1968 ≺ M) (thousandths 1968 ≺ M) (λ h. h))

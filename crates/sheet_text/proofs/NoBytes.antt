@@ -2,9 +2,7 @@
 use mathlib.Core.Path.{◌≡◌, ap}
 use mathlib.Core.List.{List, [], ◌∷◌}
 use Prim.Native.Nat.{ℕ, ◌<◌}
-use lib.ListN.{length, replicate}
-use Rattle.elementary.specs.Constants.{0·0}
-use Rattle.sheet_data.specs.Layout.{most_cells}
+use lib.ListN.{length}
 use Rattle.cards.specs.Cards.{settings_at}
 use Rattle.card_run.specs.Run.{card_of, stream_from}
 use Rattle.card_run.proofs.NoCard.{no_bytes, other_streams}

@@ -3,11 +3,9 @@
 use mathlib.Core.Path.{◌≡◌, sym, ap, ◌∙◌}
 use mathlib.Core.List.{List, ◌++◌}
 use Prim.Native.Nat.{ℕ, ◌≤◌}
-use lib.ListN.{length, take, drop, replicate}
+use lib.ListN.{length, take, drop}
 use lib.Seq.{take-take, take-append_seam}
 use borrow.Author.Tests.{le-ltb}
-use Rattle.elementary.specs.Constants.{0·0}
-use Rattle.sheet_data.specs.Layout.{most_cells}
 use Rattle.card_run.specs.Run.{stream_bytes}
 use Rattle.card_run.proofs.Prefix.{first_bytes}
 use Rattle.sheet_text.specs.Text.{nothing_lent, most_text, answer_text, ran_text, printed, Printed, Answered}

@@ -1,17 +1,17 @@
 -- Which Mach numbers are beyond a table: those strictly above its last point's. Beyond it the table answers the last value held (`beyond_held`), at the last point's own Mach a
 -- table isn't left yet, and at the next float up it is (`at_last`, `just_past_last`).
-use Rattle.std.specs.Prelude.{◌≡◌, Bool, true, false, ◌&&◌, ◌+◌, T, not, map, List, [], ◌∷◌, Float}
+use Rattle.std.specs.Prelude.{◌≡◌, false, ◌+◌, T, map, [], ◌∷◌, Float}
 use Rattle.std.proofs.Math.Path.{refl}
-use Rattle.std.proofs.Common.{sym, ap, ◌∙◌, subst, arith, length}
+use Rattle.std.proofs.Common.{ap, ◌∙◌, subst, arith}
 use Prim.Native.Nat.{ℕ, ◌-◌}
 use native.Mathlib.Omega.{arith}
 use Rattle.std.specs.Float.{binary64, nan, inf, fin}
-use Rattle.std.specs.Float.Ieee.{of_bits, to_bits, fits, round, lt, eq, le}
+use Rattle.std.specs.Float.Ieee.{of_bits, to_bits, fits, round, lt}
 use Rattle.elementary.specs.Arithmetic.{◌≺◌, bits}
 use Rattle.elementary.specs.Order.{itself, not_above, lt_le}
 use Rattle.stoney.specs.declared.StoneyNose.{StoneyNose}
 use Rattle.stoney.specs.Tables.{noses}
-use Rattle.stoney.specs.Points.{points, no_point, range_of, range_within, every, holds_at, positive_at}
+use Rattle.stoney.specs.Points.{points, range_of, range_within, every, holds_at, positive_at}
 use Rattle.stoney.specs.Lookup.{held, past_end, beyond, value_and_slope}
 use Rattle.stoney.specs.Segments.{point_of, last_of, count_is, last_mach}
 use Rattle.stoney.proofs.Rises.{nose_rises}

@@ -1,5 +1,5 @@
 -- `run_parts` meets its contract: it stops where a card or its part is refused, and else where the bytes end.
-use Rattle.std.specs.Prelude.{◌≡◌, List, ℕ, length, Float, Ok}
+use Rattle.std.specs.Prelude.{◌≡◌, ℕ, Ok}
 use Rattle.std.proofs.Common.{refl, sym, ap, subst, ◌∙◌, arith}
 use Rattle.aero_error.specs.Checks.{Check}
 use Rattle.aero_error.proofs.HandedOn.{handed_on}

@@ -1,5 +1,5 @@
 -- `run_stream` meets its contract: it stops at the settings card, at the open, or where the part cards do.
-use Rattle.std.specs.Prelude.{◌≡◌, List, ℕ, length, Float, Ok, Err}
+use Rattle.std.specs.Prelude.{◌≡◌, ℕ, Ok, Err}
 use Rattle.std.proofs.Common.{refl, sym, ap, subst, ◌∙◌, arith}
 use Rattle.sheet_data.specs.declared.Sheet.{Sheet}
 use Rattle.sheet_data.specs.Contents.{contents_of, blank, Fits}

@@ -1,5 +1,5 @@
 -- `burnout` meets its contract.
-use Rattle.std.proofs.Common.{◌≡◌, refl, sym, ◌∙◌, length}
+use Rattle.std.proofs.Common.{◌≡◌, refl, sym, ◌∙◌}
 use Rattle.std.specs.Prelude.{Ok}
 use Rattle.aero_error.specs.CheckLaws.{then_passed}
 use Rattle.sheet_data.specs.Contents.{contents_of}

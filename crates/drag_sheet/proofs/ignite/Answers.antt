@@ -1,5 +1,5 @@
 -- `ignite` meets its contract.
-use Rattle.std.proofs.Common.{◌≡◌, refl, sym, ◌∙◌, length}
+use Rattle.std.proofs.Common.{◌≡◌, refl, sym, ◌∙◌}
 use Rattle.std.specs.Prelude.{Ok}
 use Rattle.drag_sheet.specs.Planes.{lent, cells_lent}
 use Rattle.drag_sheet.specs.Calls.{ignite, tries, call_test}

@@ -1,5 +1,5 @@
 -- `remove` meets its contract: the sheet that it leaves, all rows of it written.
-use Rattle.std.proofs.Common.{◌≡◌, refl, sym, ◌∙◌, arith, length}
+use Rattle.std.proofs.Common.{◌≡◌, refl, sym, ◌∙◌, arith}
 use Rattle.std.specs.Prelude.{Ok}
 use Rattle.aero_error.proofs.HandedOn.{handed_on}
 use Rattle.drag_sheet.specs.Planes.{lent, cells_lent}

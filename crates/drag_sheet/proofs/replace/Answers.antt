@@ -1,5 +1,5 @@
 -- `replace` meets its contract: the sheet that it leaves, its changed rows written.
-use Rattle.std.proofs.Common.{◌≡◌, sym, ◌∙◌, length}
+use Rattle.std.proofs.Common.{◌≡◌, sym, ◌∙◌}
 use Rattle.std.specs.Prelude.{Ok}
 use Rattle.aero_error.proofs.HandedOn.{handed_on}
 use Rattle.drag_sheet.specs.Planes.{lent, cells_lent}

@@ -39,9 +39,10 @@ build_column-requires c =
     let f = facts (goal.at.build_column-requires c).In_ok-check_set_column in
     let n : needed c.args.sheet.now.settings.finishes 1 ≤ all_rows most_finishes = omega (arith, f.fits.finishes) in
     let none : ℕ = 0 in
-    rw (all (goal.at.build_column-requires c).After-rows-all)
-    (record { finishes = f.fits.finishes; columns = f.fits.columns; parts = f.fits.parts; inside = f.within; empty = take-replicate _ (all_rows most_finishes) 0·0 n },
-    record { finishes = f.fits.finishes; columns = f.fits.columns; parts = f.fits.parts; inside = f.within; empty = take-replicate _ (all_rows most_finishes) none n })
+    rw (all (goal.at.build_column-requires c).After-rows-all) (
+      record { finishes = f.fits.finishes; columns = f.fits.columns; parts = f.fits.parts; inside = f.within; empty = take-replicate _ (all_rows most_finishes) 0·0 n },
+      record { finishes = f.fits.finishes; columns = f.fits.columns; parts = f.fits.parts; inside = f.within; empty = take-replicate _ (all_rows most_finishes) none n },
+    )
 
 pub returns-in_err-build_column : goal.returns-in_err-build_column
 unfolding tries

@@ -1,5 +1,5 @@
 -- `write_blank` meets its contract.
-use Rattle.std.proofs.Common.{◌≡◌, sym, ◌∙◌, arith, length}
+use Rattle.std.proofs.Common.{◌≡◌, sym, ◌∙◌, arith}
 use Rattle.std.specs.Prelude.{Ok}
 use Rattle.sheet_data.specs.Contents.{blank, Fits}
 use Rattle.sheet_data.specs.Tests.{settings_test}

@@ -1,7 +1,6 @@
 -- `write_changed` meets its contract: with a part after it, by `write_two`; without, its own row alone.
 use mathlib.Core.Path.{◌≡◌, sym, ◌∙◌}
 use Prim.Native.Nat.{ℕ, ◌+◌}
-use mathlib.Core.List.{◌++◌}
 use lib.ListN.{length, drop, replicate}
 use lib.Seq.{take_at, length-take-le}
 use borrow.Author.Tests.{lt-ltb, le-ltb}

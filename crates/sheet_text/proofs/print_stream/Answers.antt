@@ -1,8 +1,5 @@
 -- `print_stream` meets its contract.
-use Rattle.std.proofs.Common.{◌≡◌, ap, ◌∙◌, List, replicate, rules, refl}
-use lib.Ieee.{Float}
-use Rattle.elementary.specs.Constants.{0·0}
-use Rattle.sheet_data.specs.Layout.{most_cells}
+use Rattle.std.proofs.Common.{◌≡◌, ap, ◌∙◌, rules, refl}
 use Rattle.card_run.specs.Run.{stream_of}
 use Rattle.card_run.specs.declared.Run.{Run}
 use Rattle.drag_sheet.specs.Planes.{Lent, lent}

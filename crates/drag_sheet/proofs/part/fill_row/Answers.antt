@@ -1,12 +1,9 @@
 -- `fill_row` meets its contract.
-use Rattle.std.proofs.Common.{sym, ap, ◌∙◌, arith, ◌≡◌}
-use Rattle.std.specs.Prelude.{Float, Err}
+use Rattle.std.proofs.Common.{sym, ◌∙◌, arith}
 use Rattle.std.specs.Float.{nan}
-use Rattle.aero_error.specs.Checks.{Check}
 use Rattle.aero_error.specs.CheckLaws.{up_none, up_more, up_failed, up_end}
 use Rattle.aero_error.proofs.HandedOn.{handed_on}
 use Rattle.sheet_data.specs.Tables.{fill_none, fill_more, fill_end}
-use Rattle.drag_sheet.specs.Formulas.{made_test}
 use Rattle.drag_sheet.proofs.Verdicts.{filled_refused, filled_passed}
 use Rattle.drag_sheet.proofs.MadeCells.{made_cell, refused_cell}
 use Rattle.drag_sheet.proofs.part.fill_row.Goals as goal
