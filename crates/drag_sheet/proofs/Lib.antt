@@ -5,6 +5,7 @@ pub mod Each
 pub mod AddedUp
 pub mod ByPlace
 pub mod Finishes
+pub mod MarkLaws
 pub mod Slots
 pub mod RowKinds
 pub mod Taken

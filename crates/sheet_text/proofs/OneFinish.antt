@@ -1,8 +1,9 @@
 -- The lines of one finish and of several. Of one finish the text is document 01's: "the Machs, the design's part rows, friction, base, total", without a number after
 -- friction and total (`one_finish_text`). "Above 1, `sheet` prints `friction j` and `total j`, j from 0", all frictions before the base and all totals after it
 -- (`several_text`). A row without a mark is printed
--- as it was before there were marks (`unmarked_text`).
+-- as it was before there were marks (`unmarked_text`), and a marked cell with a `+` (`marked_text`).
 use mathlib.Core.Path.{◌≡◌, refl}
+use mathlib.Core.Logic.{◌≢◌}
 use mathlib.Core.Bool.{true, false}
 use mathlib.Core.List.{List, [], ◌∷◌, ◌++◌, append-nil}
 use Prim.Native.Nat.{ℕ, zero, suc, ◌+◌, ◌≤◌, ◌<◌}
@@ -11,13 +12,13 @@ use Rattle.std.proofs.Common.{zero-add}
 use lib.Ieee.{Float}
 use lib.ListN.{get_or}
 use lib.Dec.{ltb}
-use borrow.Author.Tests.{lt-ltb}
+use borrow.Author.Tests.{lt-ltb, ne_eqb}
 use Rattle.sheet_data.specs.declared.Sheet.{Sheet}
 use Rattle.sheet_data.specs.Layout.{friction_row, base_row, total_row}
 use Rattle.sheet_data.specs.Rows.{row_at}
 use Rattle.drag_sheet.specs.Planes.{Lent}
 use Rattle.sheet_text.specs.Bytes.{decimal}
-use Rattle.sheet_text.specs.Text.{mach_name, part_word, friction_name, base_name, total_name, machs_of, numbers_text, line_text, row_lines, body_text, sheet_text}
+use Rattle.sheet_text.specs.Text.{mach_name, part_word, friction_name, base_name, total_name, machs_of, number_text, numbers_text, line_text, row_lines, body_text, sheet_text}
 
 -- ---- one finish
 
@@ -67,6 +68,12 @@ unfolding numbers_text
 unmarked_text [] ms h = refl
 unmarked_text (x ∷ xs) [] h = refl
 unmarked_text (x ∷ xs) (m ∷ ms) h = rw (h 0, unmarked_text xs ms (λ k. h (suc k))) refl
+
+-- ---- a marked cell: "`sheet` prints `+` right after" it, whatever byte that isn't 0 the mark is
+
+pub marked_text : (x : Float) (m : ℕ) (xs : List Float) (ms : List ℕ) → m ≢ 0 → numbers_text (x ∷ xs) (m ∷ ms) ≡ number_text x ++ (43 ∷ numbers_text xs ms)
+unfolding numbers_text
+marked_text x m xs ms h = rw (ne_eqb m 0 h) refl
 
 -- ---- several finishes
 
