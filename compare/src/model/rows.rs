@@ -1,4 +1,4 @@
-//! The rows of the model: each cell by its formula and each mark (docs/REFERENCE.md, Rows), and what
+//! The rows of the model: each cell by its formula and each mark (docs/REFERENCE.md, Rows and Marks), and what
 //! a call writes.
 
 use super::{base_row, total_row, FRICTION, PLACES};
