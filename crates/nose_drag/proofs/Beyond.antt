@@ -1,5 +1,5 @@
 -- Which shapes can be marked, and above which Mach number: `by_hand` computes it on either side of a table's end, `marked_where` says it of every curve that `new_curve`
--- makes, at every Mach number that a curve takes. Of two tables read side by side the one that ends first decides.
+-- makes of a nose with a length, at every Mach number that a curve takes, and `flat_never` of one without. Of two tables read side by side the one that ends first decides.
 use Rattle.std.specs.Prelude.{Ok, Err, Some, None, Option}
 use Rattle.aero_error.specs.Checks.{◌for_value◌, Coefficient}
 use Rattle.aero_error.specs.declared.AeroError.TheVariants.{Broken}
@@ -29,17 +29,15 @@ use Rattle.shapes.specs.declared.NoseShape.{NoseShape}
 use Rattle.shapes.specs.declared.NoseShape.TheVariants.{Conical, Ogive, Elliptical, PowerSeries, ParabolicSeries, Haack}
 use Rattle.stoney.specs.declared.StoneyNose.{StoneyNose}
 use Rattle.stoney.specs.declared.StoneyNose.TheVariants
-use Rattle.stoney.specs.Points.{points, first_mach}
-use Rattle.stoney.specs.Lookup.{past_end, beyond}
-use Rattle.stoney.specs.Segments.{last_mach}
-use Rattle.stoney.proofs.Beyond.{beyond_is}
+use Rattle.stoney.specs.Points.{points, first_mach, last_mach}
+use Rattle.stoney.specs.Lookup.{beyond}
 use Rattle.nose_drag.specs.declared.curve.Reference.{Reference}
 use Rattle.nose_drag.specs.declared.curve.Transonic.{Transonic}
 use Rattle.nose_drag.specs.declared.builder.Bracket.{Bracket}
 use Rattle.nose_drag.specs.declared.curve.PressureDragCurve.{PressureDragCurve}
 use Rattle.nose_drag.specs.Constants.{0·75}
 use Rattle.nose_drag.specs.Curves.{cone_3, power_bracket, parabolic_bracket, weight_of, interpolated, between_references, cone_curve, step_curve, from_transonic, shaped, ogive, power, parabolic, haack, build, recorded, new_curve, curve_at, Curve}
-use Rattle.nose_drag.specs.Between.{Between, between_method, between_low, power_between, parabolic_between, haack_between, made, record_method, built, none_built}
+use Rattle.nose_drag.specs.Between.{Between, between_method, between_low, power_between, parabolic_between, haack_between, made, own_shape, record_method, built, none_built}
 use Rattle.nose_drag.specs.Beyond.{reference_beyond, ellipsoid_beyond, method_beyond, curve_beyond, drag_of, thousandths, marked_above, is_above}
 
 -- ---- by hand: a nose of fineness 3 with a smooth joint, at one Mach number
@@ -60,7 +58,7 @@ pub by_hand :
     false ∷ true ∷ false ∷ true ∷
     false ∷ true ∷ false ∷ true ∷
     false ∷ true ∷ false ∷ false ∷ true ∷ false ∷ false ∷ []
-unfolding curve_beyond ellipsoid_beyond beyond past_end points new_curve build recorded power parabolic haack ogive cone_curve power_bracket parabolic_bracket between_references weight_of interpolated from_transonic
+unfolding curve_beyond ellipsoid_beyond beyond points new_curve build recorded power parabolic haack ogive cone_curve power_bracket parabolic_bracket between_references weight_of interpolated from_transonic
     ogive_pressure_drag_factor joint_pressure_drag_coefficient dimension between of_bits round sub add sum neg mul div lt le eq
 by_hand = refl
 
@@ -144,13 +142,14 @@ from_limit (Some m) M h = by (M ≺ 0·8) refl
 
 -- the ellipsoid's table begins before it ends
 ellipsoid_facts : T (positive (thousandths 1200)) × T (thousandths 1200 ≺ thousandths 3587) × (beyond TheVariants.Ellipsoid (thousandths 1200) ≡ false)
-unfolding points round lt
-ellipsoid_facts = (tt, tt, beyond_is TheVariants.Ellipsoid (thousandths 1200))
+unfolding beyond points round lt
+ellipsoid_facts = (tt, tt, refl)
 
 -- where each table ends
 module _ (M : Float) where
   ends : (nose : StoneyNose) → beyond nose M ≡ (last_mach nose ≺ M)
-  ends nose = beyond_is nose M
+  unfolding beyond
+  ends nose = refl
 
   -- of two tables the one that ends first decides
   first_of : (one other : StoneyNose) → T (positive (last_mach one)) → T (positive (last_mach other)) → T (last_mach one ≺ last_mach other) → (beyond one M || beyond other M) ≡ (last_mach one ≺ M)
@@ -218,10 +217,18 @@ never curve M h = rw h (by (M ≺ curve.mach_low))
     by true = refl
     by false = refl
 
--- "fineness 0 then gives the step": no table
 pub step_never : (M : Float) → curve_beyond step_curve M ≡ false
 unfolding step_curve from_transonic
 step_never M = never step_curve M refl
+
+-- "fineness 0 then gives the step whatever the shape parameter is"
+pub flat_never : (shape : NoseShape) (f φ : Float) (curve : PressureDragCurve) (M : Float) → new_curve shape f φ ≡ Ok curve → (f ≈ 0·0) ≡ true → curve_beyond curve M ≡ false
+unfolding step_curve from_transonic
+flat_never shape f φ curve M e z =
+    let m = made shape f φ curve e in
+    let step : step_curve ≡ m.inner = ap built (rw z at m.own) in
+    let method : curve.transonic ≡ Transonic.Blunt = ap (λ (c : PressureDragCurve). c.transonic) m.same ∙ (record_method shape f m.inner).method ∙ ap (λ (c : PressureDragCurve). c.transonic) (sym step) in
+    never curve M (ap (λ (t : Transonic). method_beyond t M) method)
 
 cone_never : (rest f factor M : Float) → method_beyond (cone_curve rest f factor).transonic M ≡ false
 unfolding cone_curve from_transonic
@@ -245,8 +252,8 @@ module _ (shape : NoseShape) (f φ : Float) (curve : PressureDragCurve) (e : new
   -- a curve whose own method reads no table
   without_table : (M : Float) → ((rest : Float) (inner : PressureDragCurve) → shaped shape f rest ≡ Ok inner → method_beyond inner.transonic M ≡ false) → curve_beyond curve M ≡ false
   without_table M none =
-      let m = made shape f φ curve e n in
-      never curve M (ap (λ (c : PressureDragCurve). method_beyond c.transonic M) m.same ∙ ap (λ (t : Transonic). method_beyond t M) (record_method shape f m.inner).method ∙ none m.rest m.inner m.own)
+      let m = made shape f φ curve e in
+      never curve M (ap (λ (c : PressureDragCurve). method_beyond c.transonic M) m.same ∙ ap (λ (t : Transonic). method_beyond t M) (record_method shape f m.inner).method ∙ none m.rest m.inner (own_shape m n))
 
   -- a curve between two references, of which the first table to end decides
   between_tables : {lower upper : Reference} {weight : Float} → Between shape lower upper weight → (o : Option Float) → Late o → (M : Float)
@@ -261,8 +268,8 @@ unfolding curve_beyond from_transonic
 marked_where Conical f φ curve M e n ok = without_table Conical f φ curve e n M (λ rest inner own. subst (λ (c : Curve). method_beyond (built c).transonic M ≡ false) own (cone_never rest f 1·0 M))
 marked_where (Ogive radius-ratio) f φ curve M e n ok = without_table (Ogive radius-ratio) f φ curve e n M (λ rest inner own. ogive_never rest f radius-ratio inner M own)
 marked_where Elliptical f φ curve M e n ok =
-    let m = made Elliptical f φ curve e n in
-    let own : m.inner ≡ from_transonic m.rest (Transonic.Ellipsoid f m.rest) 0·0 = ap built (sym m.own) in
+    let m = made Elliptical f φ curve e in
+    let own : m.inner ≡ from_transonic m.rest (Transonic.Ellipsoid f m.rest) 0·0 = ap built (sym (own_shape m n)) in
     let kept = record_method Elliptical f m.inner in
     let low : curve.mach_low ≡ 0·0 = ap (λ (c : PressureDragCurve). c.mach_low) m.same ∙ kept.low ∙ ap (λ (c : PressureDragCurve). c.mach_low) own in
     let method : curve.transonic ≡ Transonic.Ellipsoid f m.rest = ap (λ (c : PressureDragCurve). c.transonic) m.same ∙ kept.method ∙ ap (λ (c : PressureDragCurve). c.transonic) own in

@@ -86,16 +86,16 @@ built (Err e) = step_curve
 pub none_built : {A : Type 0} {r : AeroError} {curve : PressureDragCurve} → Err r ≡ Ok curve → A
 none_built e = let z : ◌≡◌ {A = ℕ} 0 1 = cc in absurd (omega arith)
 
--- a built curve is the shape's own, recorded
+-- a built curve is the step where there is no length, else the shape's own; recorded
 pub record Made (shape : NoseShape) (f : Float) (curve : PressureDragCurve) : Type 0 where
   pub rest : Float
   pub inner : PressureDragCurve
-  pub own : shaped shape f rest ≡ Ok inner
+  pub own : cond (f ≈ 0·0) (Ok step_curve) (shaped shape f rest) ≡ Ok inner
   pub same : curve ≡ recorded shape f inner
 
-pub made : (shape : NoseShape) (f φ : Float) (curve : PressureDragCurve) → new_curve shape f φ ≡ Ok curve → (f ≈ 0·0) ≡ false → Made shape f curve
+pub made : (shape : NoseShape) (f φ : Float) (curve : PressureDragCurve) → new_curve shape f φ ≡ Ok curve → Made shape f curve
 unfolding new_curve build
-made shape f φ curve e n = first (required (dimension f true) Fineness f) (joint_pressure_drag_coefficient φ) e
+made shape f φ curve e = first (required (dimension f true) Fineness f) (joint_pressure_drag_coefficient φ) e
   where
     record_it : PressureDragCurve → Curve
     record_it inner = Ok (recorded shape f inner)
@@ -103,14 +103,17 @@ made shape f φ curve e n = first (required (dimension f true) Fineness f) (join
     after_joint : Float → Curve
     after_joint rest = cond (f ≈ 0·0) (Ok step_curve) (shaped shape f rest)
 
-    taken : (rest : Float) (c : Curve) → shaped shape f rest ≡ c → (c for_value record_it) ≡ Ok curve → Made shape f curve
+    taken : (rest : Float) (c : Curve) → after_joint rest ≡ c → (c for_value record_it) ≡ Ok curve → Made shape f curve
     taken rest (Ok inner) own e = record { rest = rest; inner = inner; own = own; same = ap built (sym e) }
     taken rest (Err r) own e = none_built e
 
     first : (c : Check) (j : Coefficient) → ((c and_then (j for_value after_joint)) for_value record_it) ≡ Ok curve → Made shape f curve
     first (Err r) j e = none_built e
     first (Ok _) (Err r) e = none_built e
-    first (Ok _) (Ok rest) e = taken rest (shaped shape f rest) refl (rw n at e)
+    first (Ok _) (Ok rest) e = taken rest (after_joint rest) refl e
+
+pub own_shape : {shape : NoseShape} {f : Float} {curve : PressureDragCurve} (m : Made shape f curve) → (f ≈ 0·0) ≡ false → shaped shape f m.rest ≡ Ok m.inner
+own_shape m n = rw n at m.own
 
 -- what a record adds moves neither M_L nor the method
 pub record Same (a b : PressureDragCurve) : Type 0 where
@@ -131,15 +134,15 @@ module _ {shape : NoseShape} {lower upper : Reference} {weight : Float} (b : Bet
   pub between_method : curve.transonic ≡ Transonic.Scaled lower upper weight (fineness_exponent f)
   unfolding interpolated from_transonic
   between_method =
-      let m = made shape f φ curve e n in
-      ap (λ (c : PressureDragCurve). c.transonic) m.same ∙ (record_method shape f m.inner).method ∙ ap (λ (c : PressureDragCurve). c.transonic) (b.curve f m.rest m.inner m.own)
+      let m = made shape f φ curve e in
+      ap (λ (c : PressureDragCurve). c.transonic) m.same ∙ (record_method shape f m.inner).method ∙ ap (λ (c : PressureDragCurve). c.transonic) (b.curve f m.rest m.inner (own_shape m n))
 
   -- it begins at Mach 0.8
   pub between_low : curve.mach_low ≡ 0·8
   unfolding interpolated from_transonic
   between_low =
-      let m = made shape f φ curve e n in
-      ap (λ (c : PressureDragCurve). c.mach_low) m.same ∙ (record_method shape f m.inner).low ∙ ap (λ (c : PressureDragCurve). c.mach_low) (b.curve f m.rest m.inner m.own)
+      let m = made shape f φ curve e in
+      ap (λ (c : PressureDragCurve). c.mach_low) m.same ∙ (record_method shape f m.inner).low ∙ ap (λ (c : PressureDragCurve). c.mach_low) (b.curve f m.rest m.inner (own_shape m n))
 
   -- and from there on it is the coefficient
   pub between_coefficient : (M : Float) → mach_checked M ≡ Ok tt → (M ≺ 0·8) ≡ false

@@ -62,7 +62,8 @@ fn ellipsoid_at_least_rest(fineness_ratio: f64, rest: f64, mach: f64) -> ValueAn
     }
 }
 
-// Stoney's ellipsoid scaled by eq. B.9, and whether it is read beyond its last point.
+// Stoney's ellipsoid scaled by eq. B.9, and whether it is read beyond its last point. Inlined, as the next one, so that a reading goes through no memory.
+#[inline(always)]
 #[tactic(auto, unfolding(crate::specs::Methods::ellipsoid_measured))]
 fn ellipsoid_measured(fineness_ratio: f64, mach: f64) -> Reading
     ensures { result ≡ record { at = ellipsoid_measured fineness_ratio mach; beyond = beyond Ellipsoid mach } }
@@ -81,6 +82,7 @@ fn ellipsoid_measured(fineness_ratio: f64, mach: f64) -> Reading
 }
 
 // An ellipsoid at every Mach number: below 0.8, from Stoney's first point on, and a straight line between, which reads the table at that point.
+#[inline(always)]
 #[tactic(auto, unfolding(crate::specs::Methods::ellipsoid, crate::specs::Beyond::ellipsoid_beyond))]
 pub(crate) fn ellipsoid(fineness_ratio: f64, rest: f64, mach: f64) -> Reading
     ensures { result ≡ record { at = ellipsoid_of fineness_ratio rest mach; beyond = ellipsoid_beyond mach } }

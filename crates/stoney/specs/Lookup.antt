@@ -1,12 +1,12 @@
 -- What a table says at a Mach number M: the value and its slope, and beside them whether M is beyond its last point. The points are walked from the first to the first one above M; the segment that ends there
 -- holds M, so that a tabled Mach takes the segment to its right. nose_drag.rs, `StoneyNose::value_and_slope`, with its order of operations.
-use Rattle.std.specs.Prelude.{Bool, cond, List, [], ◌∷◌, ◌-◌, length, get_or, Float}
+use Rattle.std.specs.Prelude.{Bool, cond, List, [], ◌∷◌, Float}
 use Rattle.elementary.specs.Arithmetic.{◌⊕◌, ◌⊖◌, ◌⊗◌, ◌⊘◌, ◌≺◌, ◌≼◌, bits}
 use Rattle.elementary.specs.Constants.{0·8}
 use Rattle.stoney.specs.declared.StoneyNose.{StoneyNose}
 use Rattle.stoney.specs.declared.ValueAndSlope.{ValueAndSlope}
 use Rattle.stoney.specs.declared.Reading.{Reading}
-use Rattle.stoney.specs.Points.{Point, points, no_point}
+use Rattle.stoney.specs.Points.{Point, points, no_point, last_mach}
 
 -- the top of the subsonic region (Niskanen 2009, Table 3.1)
 abbrev pub subsonic_mach_limit : Float
@@ -55,12 +55,9 @@ value_and_slope nose M = lookup (points nose) M
 -- ---- beside the value
 
 -- "whether Mach was above its table's last Mach": a NaN is above none
-unfoldable pub past_end : List Point → Float → Bool
-past_end ps M = (get_or ps (length ps - 1) no_point).mach ≺ M
-
 unfoldable pub beyond : StoneyNose → Float → Bool
-unfolding past_end points
-beyond nose M = past_end (points nose) M
+unfolding points
+beyond nose M = last_mach nose ≺ M
 
 -- the lookup's answer
 abbrev pub reading : StoneyNose → Float → Reading

@@ -1,6 +1,6 @@
 -- The points that the program stores: each number of a table is the binary64 number nearest its decimal, and the nine tables stand one after the other.
 -- `part_of_all` shows that each nose's range picks that nose's table; that Mach strictly rises within each is `all_rise` (proofs/Rises.antt) and `rises_at`.
-use Rattle.std.specs.Prelude.{◌≡◌, refl, Bool, true, false, ◌&&◌, List, [], ◌∷◌, ◌++◌, map, ℕ, zero, suc, ◌+◌, ◌≤◌, ◌<◌, T, eqb, length, get_or, take, drop, Float}
+use Rattle.std.specs.Prelude.{◌≡◌, refl, Bool, true, false, ◌&&◌, List, [], ◌∷◌, ◌++◌, map, ℕ, zero, suc, ◌+◌, ◌-◌, ◌≤◌, ◌<◌, T, eqb, length, get_or, take, drop, Float}
 use Rattle.std.proofs.Common.{le_of_suc-le-suc, not-suc-le-zero, lit<, lit≤, get_or-take, get_or-drop}
 use Rattle.std.specs.Float.{binary64}
 use Rattle.std.specs.Float.Ieee.{round}
@@ -93,6 +93,9 @@ range_within VonKarman = (lit< tt, lit≤ tt)
 
 abbrev pub first_mach : StoneyNose → Float
 first_mach nose = (get_or (points nose) 0 no_point).mach
+
+abbrev pub last_mach : StoneyNose → Float
+last_mach nose = (get_or (points nose) (length (points nose) - 1) no_point).mach
 
 -- whether the table starts at Mach 1.2: those of the wind tunnel do
 abbrev pub from_1·2 : StoneyNose → Bool

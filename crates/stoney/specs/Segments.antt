@@ -27,9 +27,6 @@ point_of nose k = get_or (points nose) k no_point
 abbrev pub last_of : StoneyNose → Point
 last_of nose = point_of nose ((range_of nose).count - 1)
 
-abbrev pub last_mach : StoneyNose → Float
-last_mach nose = (last_of nose).mach
-
 pub count_is : (nose : StoneyNose) → length (points nose) ≡ (range_of nose).count
 unfolding points
 count_is PowerQuarter = refl

@@ -5,8 +5,8 @@
 
 ghost use Rattle.std.specs.Prelude.{◌≡◌, ◌<◌, ◌≤◌, length, OkIff};
 ghost use Rattle.stoney.specs.Tables.{nose_at};
-ghost use Rattle.stoney.specs.Points.{points, mach_at, drag_at, range_of, first_mach};
-ghost use Rattle.stoney.specs.Lookup.{before, line, lookup, past_end, reading};
+ghost use Rattle.stoney.specs.Points.{points, mach_at, drag_at, range_of, first_mach, last_mach};
+ghost use Rattle.stoney.specs.Lookup.{before, line, lookup, value_and_slope, reading};
 
 // The top of the subsonic region, where the transonic methods start (Niskanen 2009, Table 3.1, p. 47), and where a table that starts
 // above it is run down to 0.
@@ -183,19 +183,6 @@ fn walk_points(points: &[StoredPoint], mach: f64) -> ValueAndSlope
     }
 }
 
-// The same, with whether `mach` is above the last point's. A NaN isn't.
-#[tactic(auto, unfolding(crate::specs::Lookup::past_end))]
-fn read_points(points: &[StoredPoint], mach: f64) -> Reading
-    requires { 0 < length points.now }
-    ensures { result ≡ record { at = lookup points.now mach; beyond = past_end points.now mach } }
-{
-    let last = points[points.len() - 1];
-    Reading {
-        at: walk_points(points, mach),
-        beyond: last.mach < mach,
-    }
-}
-
 impl StoneyNose {
     // The nose of a number, in the order of the Rust's `ALL`; a number above 8 counts as 8. `try_from` refuses it; this one can't fail.
     pub fn of_number(number: u64) -> StoneyNose
@@ -248,29 +235,50 @@ impl StoneyNose {
         self.table()[0].mach
     }
 
+    // The last Mach number of the nose's table.
+    pub fn last_mach(self) -> f64
+        ensures { result ≡ last_mach self }
+    {
+        let table = self.table();
+        table[table.len() - 1].mach
+    }
+
     // The table's value and slope at `mach`: linear between the points, with the segment to the right at a point; the last value held past the
-    // last point; a table that starts above Mach 0.8 run down to 0 there. A NaN has no point above it, so it is held like a Mach past the end, but isn't beyond it.
-    #[tactic(auto, unfolding(crate::specs::Lookup::value_and_slope, crate::specs::Lookup::beyond))]
-    pub fn value_and_slope(self, mach: f64) -> Reading
-        ensures { result ≡ reading self mach }
+    // last point; a table that starts above Mach 0.8 run down to 0 there. A NaN has no point above it, so it is held like a Mach past the end.
+    #[tactic(auto, unfolding(crate::specs::Lookup::value_and_slope))]
+    fn at(self, mach: f64) -> ValueAndSlope
+        ensures { result ≡ value_and_slope self mach }
     {
         // Each nose's walk has its own table, so that the compiler unrolls it: by `self.table()` lookups in one nose take a seventh longer.
         match self {
-            StoneyNose::PowerQuarter => read_points(StoneyNose::PowerQuarter.table(), mach),
-            StoneyNose::PowerHalf => read_points(StoneyNose::PowerHalf.table(), mach),
-            StoneyNose::PowerThreeQuarters => read_points(
+            StoneyNose::PowerQuarter => walk_points(StoneyNose::PowerQuarter.table(), mach),
+            StoneyNose::PowerHalf => walk_points(StoneyNose::PowerHalf.table(), mach),
+            StoneyNose::PowerThreeQuarters => walk_points(
                 StoneyNose::PowerThreeQuarters.table(),
                 mach,
             ),
-            StoneyNose::ParabolaHalf => read_points(StoneyNose::ParabolaHalf.table(), mach),
-            StoneyNose::ParabolaThreeQuarters => read_points(
+            StoneyNose::ParabolaHalf => walk_points(StoneyNose::ParabolaHalf.table(), mach),
+            StoneyNose::ParabolaThreeQuarters => walk_points(
                 StoneyNose::ParabolaThreeQuarters.table(),
                 mach,
             ),
-            StoneyNose::Parabola => read_points(StoneyNose::Parabola.table(), mach),
-            StoneyNose::Ellipsoid => read_points(StoneyNose::Ellipsoid.table(), mach),
-            StoneyNose::LvHaack => read_points(StoneyNose::LvHaack.table(), mach),
-            StoneyNose::VonKarman => read_points(StoneyNose::VonKarman.table(), mach),
+            StoneyNose::Parabola => walk_points(StoneyNose::Parabola.table(), mach),
+            StoneyNose::Ellipsoid => walk_points(StoneyNose::Ellipsoid.table(), mach),
+            StoneyNose::LvHaack => walk_points(StoneyNose::LvHaack.table(), mach),
+            StoneyNose::VonKarman => walk_points(StoneyNose::VonKarman.table(), mach),
+        }
+    }
+
+    // The same, with whether `mach` is above the table's last Mach. A NaN isn't. Inlined, so that whoever takes the value alone compares no more, and a reading goes
+    // through no memory.
+    #[inline(always)]
+    #[tactic(auto, unfolding(crate::specs::Lookup::beyond))]
+    pub fn value_and_slope(self, mach: f64) -> Reading
+        ensures { result ≡ reading self mach }
+    {
+        Reading {
+            at: self.at(mach),
+            beyond: self.last_mach() < mach,
         }
     }
 }
