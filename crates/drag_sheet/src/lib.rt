@@ -41,7 +41,7 @@ fn write_blank(settings: Settings, cells: &mut [f64], marks: &mut [u8]) -> Resul
     rows::write_all(Sheet::blank(settings), cells, marks)
 }
 
-// Opens a sheet with these settings and no parts, and writes all its rows. Refused, it is that sheet too, and the cells stay: what is promised of the sheet
+// Opens a sheet with these settings and no parts, and writes all its rows. Refused, it is that sheet too, and cells and marks stay: what is promised of the sheet
 // holds either way, so it is a pair and no `Result`.
 pub fn open(
     settings: Settings,

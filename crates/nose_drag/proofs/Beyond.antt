@@ -1,6 +1,8 @@
--- Which shapes can be marked, and above which Mach number: `by_hand` computes it on either side of a table's end, `marked_where` says it of every curve that `new_curve`
--- makes of a nose with a length, at every Mach number that a curve takes, and `flat_never` of one without. Of two tables read side by side the one that ends first decides.
+-- Which shapes can be marked, and above which Mach number: `by_hand` computes it on either side of a table's end. Of every curve that `new_curve` makes of a nose with a
+-- length, at every Mach number that a curve takes, `tables_where` says that it is marked where a table of its shape is left, `marked_where` from which Mach number on, and
+-- `flat_never` that one without a length never is. Of two tables read side by side the one that ends first decides.
 use Rattle.std.specs.Prelude.{Ok, Err, Some, None, Option}
+use Rattle.std.proofs.Math.Bool.{or-false}
 use Rattle.aero_error.specs.Checks.{◌for_value◌, Coefficient}
 use Rattle.aero_error.specs.declared.AeroError.TheVariants.{Broken}
 use Rattle.aero_error.specs.declared.Rule.TheVariants.{OgiveRadiusRatio}
@@ -11,7 +13,7 @@ use Rattle.nose_drag.specs.Answered.{curve_answered}
 use mathlib.Core.Path.{◌≡◌, refl, sym, ap, ◌∙◌, subst}
 use mathlib.Core.Bool.{Bool, true, false, cond, ◌||◌, ◌&&◌}
 use lib.Dec.{T}
-use mathlib.Core.List.{[], ◌∷◌}
+use mathlib.Core.List.{[], ◌∷◌, map}
 use Prim.Native.Nat.{ℕ}
 use lib.Ieee.{Float, nan, inf, fin, of_bits, round, sum, neg, add, sub, mul, div, lt, eq, le}
 use lib.Ieee.Scale.{finite}
@@ -28,7 +30,7 @@ use Rattle.drag.specs.Constants.{0·25, 3·0}
 use Rattle.shapes.specs.declared.NoseShape.{NoseShape}
 use Rattle.shapes.specs.declared.NoseShape.TheVariants.{Conical, Ogive, Elliptical, PowerSeries, ParabolicSeries, Haack}
 use Rattle.stoney.specs.declared.StoneyNose.{StoneyNose}
-use Rattle.stoney.specs.declared.StoneyNose.TheVariants
+use Rattle.stoney.specs.declared.StoneyNose.TheVariants.{PowerQuarter, PowerHalf, PowerThreeQuarters, ParabolaHalf, ParabolaThreeQuarters, Parabola, Ellipsoid, LvHaack, VonKarman}
 use Rattle.stoney.specs.Points.{points, first_mach, last_mach}
 use Rattle.stoney.specs.Lookup.{beyond}
 use Rattle.nose_drag.specs.declared.curve.Reference.{Reference}
@@ -36,9 +38,9 @@ use Rattle.nose_drag.specs.declared.curve.Transonic.{Transonic}
 use Rattle.nose_drag.specs.declared.builder.Bracket.{Bracket}
 use Rattle.nose_drag.specs.declared.curve.PressureDragCurve.{PressureDragCurve}
 use Rattle.nose_drag.specs.Constants.{0·75}
-use Rattle.nose_drag.specs.Curves.{cone_3, power_bracket, parabolic_bracket, weight_of, interpolated, between_references, cone_curve, step_curve, from_transonic, shaped, ogive, power, parabolic, haack, build, recorded, new_curve, curve_at, Curve}
+use Rattle.nose_drag.specs.Curves.{cone_3, bracket, power_bracket, parabolic_bracket, weight_of, interpolated, between_references, cone_curve, step_curve, from_transonic, shaped, ogive, power, parabolic, haack, build, recorded, new_curve, curve_at, Curve}
 use Rattle.nose_drag.specs.Between.{Between, between_method, between_low, power_between, parabolic_between, haack_between, made, own_shape, record_method, built, none_built}
-use Rattle.nose_drag.specs.Beyond.{reference_beyond, ellipsoid_beyond, method_beyond, curve_beyond, drag_of, thousandths, marked_above, is_above}
+use Rattle.nose_drag.specs.Beyond.{reference_beyond, ellipsoid_beyond, method_beyond, curve_beyond, drag_of, tables_read, thousandths, marked_above, least, any_beyond, is_above}
 
 -- ---- by hand: a nose of fineness 3 with a smooth joint, at one Mach number
 
@@ -92,10 +94,6 @@ or_higher true true h = refl
 or_higher true false h = absurd (h tt)
 or_higher false y h = refl
 
-no_other : (x : Bool) → (x || false) ≡ x
-no_other true = refl
-no_other false = refl
-
 -- ---- the Mach that decides, or none
 
 -- it is a positive number above 0.8, so that from it on no method is left for its fit
@@ -112,18 +110,19 @@ late : (shape : NoseShape) → Late (marked_above shape)
 late Conical = tt
 late (Ogive radius-ratio) = tt
 late Elliptical = late_each.4
-late (PowerSeries n) = by (n ≺ 0·25) (n ≺ 0·75)
+late (PowerSeries n) = by (n ≺ 0·25) (n ≺ 0·5) (n ≺ 0·75)
   where
-    by : (a b : Bool) → Late (cond a (Some (thousandths 3587)) (cond b (Some (thousandths 1941)) (Some (thousandths 1967))))
-    by true b = late_each.4
-    by false true = late_each.0
-    by false false = late_each.1
+    by : (a b c : Bool) → Late (cond a (Some (thousandths 3587)) (cond b (Some (thousandths 1941)) (cond c (Some (thousandths 1941)) (Some (thousandths 1967)))))
+    by true b c = late_each.4
+    by false true c = late_each.0
+    by false false true = late_each.0
+    by false false false = late_each.1
 late (ParabolicSeries k) = late_each.2
 late (Haack c) = late_each.3
 
-limits : T (positive 0·8) × T (positive 0·5) × T (positive 0·75) × T (0·5 ≺ 0·75)
-unfolding round of_bits lt
-limits = (tt, tt, tt, tt)
+limit_positive : T (positive 0·8)
+unfolding round of_bits
+limit_positive = tt
 
 -- below Mach 0.8 nothing is above it
 from_limit : (o : Option Float) (M : Float) → Late o → cond (M ≺ 0·8) false (is_above o M) ≡ is_above o M
@@ -136,12 +135,34 @@ from_limit (Some m) M h = by (M ≺ 0·8) refl
   where
     by : (b : Bool) → (M ≺ 0·8) ≡ b → cond b false (m ≺ M) ≡ (m ≺ M)
     by false q = refl
-    by true q = sym (not_above M m (lt_le M m (lt_through M 0·8 m limits.0 h.0 (subst T (sym q) tt) (lt_le 0·8 m h.1))))
+    by true q = sym (not_above M m (lt_le M m (lt_through M 0·8 m limit_positive h.0 (subst T (sym q) tt) (lt_le 0·8 m h.1))))
 
 -- ---- the tables that a shape's curve reads
 
+-- "least last Mach": by computing
+pub least_last : (shape : NoseShape) → marked_above shape ≡ least (map last_mach (tables_read shape))
+unfolding least points round lt
+least_last Conical = refl
+least_last (Ogive radius-ratio) = refl
+least_last Elliptical = refl
+least_last (PowerSeries n) = by (n ≺ 0·25) (n ≺ 0·5) (n ≺ 0·75)
+  where
+    by : (a b c : Bool) → cond a (Some (thousandths 3587)) (cond b (Some (thousandths 1941)) (cond c (Some (thousandths 1941)) (Some (thousandths 1967))))
+        ≡ least (map last_mach (cond a (PowerQuarter ∷ []) (cond b (PowerQuarter ∷ PowerHalf ∷ []) (cond c (PowerHalf ∷ PowerThreeQuarters ∷ []) (PowerThreeQuarters ∷ [])))))
+    by true b c = refl
+    by false true c = refl
+    by false false true = refl
+    by false false false = refl
+least_last (ParabolicSeries k) = by (k ≺ 0·5) (k ≺ 0·75)
+  where
+    by : (a b : Bool) → Some (thousandths 1968) ≡ least (map last_mach (cond a (ParabolaHalf ∷ []) (cond b (ParabolaHalf ∷ ParabolaThreeQuarters ∷ []) (ParabolaThreeQuarters ∷ Parabola ∷ []))))
+    by true b = refl
+    by false true = refl
+    by false false = refl
+least_last (Haack c) = refl
+
 -- the ellipsoid's table begins before it ends
-ellipsoid_facts : T (positive (thousandths 1200)) × T (thousandths 1200 ≺ thousandths 3587) × (beyond TheVariants.Ellipsoid (thousandths 1200) ≡ false)
+ellipsoid_facts : T (positive (thousandths 1200)) × T (thousandths 1200 ≺ thousandths 3587) × (beyond Ellipsoid (thousandths 1200) ≡ false)
 unfolding beyond points round lt
 ellipsoid_facts = (tt, tt, refl)
 
@@ -158,45 +179,71 @@ module _ (M : Float) where
   second_of : (one other : StoneyNose) → T (positive (last_mach one)) → T (positive (last_mach other)) → T (last_mach other ≺ last_mach one) → (beyond one M || beyond other M) ≡ (last_mach other ≺ M)
   second_of one other p q h = rw (ends one, ends other) (or_higher (last_mach one ≺ M) (last_mach other ≺ M) (above_lower (last_mach other) (last_mach one) M q p h))
 
+  -- any of one table, and of two
+  one_read : (nose : StoneyNose) → any_beyond (nose ∷ []) M ≡ beyond nose M
+  one_read nose = or-false (beyond nose M)
+
+  two_read : (one other : StoneyNose) → any_beyond (one ∷ other ∷ []) M ≡ (beyond one M || beyond other M)
+  two_read one other = ap (λ (b : Bool). beyond one M || b) (one_read other)
+
+  -- the tables that are read are left above their least last Mach
+  tables_end : (shape : NoseShape) → any_beyond (tables_read shape) M ≡ is_above (marked_above shape) M
+  unfolding points round lt
+  tables_end Conical = refl
+  tables_end (Ogive radius-ratio) = refl
+  tables_end Elliptical = one_read Ellipsoid ∙ ends Ellipsoid
+  tables_end (PowerSeries n) = by (n ≺ 0·25) (n ≺ 0·5) (n ≺ 0·75)
+    where
+      by : (a b c : Bool)
+          → any_beyond (cond a (PowerQuarter ∷ []) (cond b (PowerQuarter ∷ PowerHalf ∷ []) (cond c (PowerHalf ∷ PowerThreeQuarters ∷ []) (PowerThreeQuarters ∷ [])))) M
+          ≡ is_above (cond a (Some (thousandths 3587)) (cond b (Some (thousandths 1941)) (cond c (Some (thousandths 1941)) (Some (thousandths 1967))))) M
+      by true b c = one_read PowerQuarter ∙ ends PowerQuarter
+      by false true c = two_read PowerQuarter PowerHalf ∙ second_of PowerQuarter PowerHalf tt tt tt
+      by false false true = two_read PowerHalf PowerThreeQuarters ∙ first_of PowerHalf PowerThreeQuarters tt tt tt
+      by false false false = one_read PowerThreeQuarters ∙ ends PowerThreeQuarters
+  tables_end (ParabolicSeries k) = by (k ≺ 0·5) (k ≺ 0·75)
+    where
+      by : (a b : Bool) → any_beyond (cond a (ParabolaHalf ∷ []) (cond b (ParabolaHalf ∷ ParabolaThreeQuarters ∷ []) (ParabolaThreeQuarters ∷ Parabola ∷ []))) M ≡ (thousandths 1968 ≺ M)
+      by true b = one_read ParabolaHalf ∙ ends ParabolaHalf
+      by false true = two_read ParabolaHalf ParabolaThreeQuarters ∙ rw (ends ParabolaHalf, ends ParabolaThreeQuarters) (or_lower (thousandths 1968 ≺ M) (thousandths 1968 ≺ M) (λ h. h))
+      by false false = two_read ParabolaThreeQuarters Parabola ∙ first_of ParabolaThreeQuarters Parabola tt tt tt
+  tables_end (Haack c) = two_read VonKarman LvHaack ∙ second_of VonKarman LvHaack tt tt tt
+
+  -- and they are the tables among the references
   abbrev both_beyond : Bracket → Bool
   both_beyond b = reference_beyond b.lower M || reference_beyond b.upper M
 
-  power_where : (n : Float) → both_beyond (power_bracket n) ≡ is_above (marked_above (PowerSeries n)) M
-  unfolding power_bracket points round lt
-  power_where n = by (n ≺ 0·25) (n ≺ 0·5) (n ≺ 0·75) (λ h. lt_through n 0·5 0·75 limits.1 limits.2 h (lt_le 0·5 0·75 limits.3))
+  power_reads : (n : Float) → both_beyond (power_bracket n) ≡ any_beyond (tables_read (PowerSeries n)) M
+  unfolding power_bracket
+  power_reads n = by (n ≺ 0·25) (n ≺ 0·5) (n ≺ 0·75)
     where
-      by : (a b c : Bool) → (T b → T c)
-          → both_beyond (cond a (record { lower = Reference.Blunt; upper = Reference.Stoney TheVariants.PowerQuarter; low = 0·0; high = 0·25 })
-          (cond b (record { lower = Reference.Stoney TheVariants.PowerQuarter; upper = Reference.Stoney TheVariants.PowerHalf; low = 0·25; high = 0·5 })
-          (cond c (record { lower = Reference.Stoney TheVariants.PowerHalf; upper = Reference.Stoney TheVariants.PowerThreeQuarters; low = 0·5; high = 0·75 })
-          (record { lower = Reference.Stoney TheVariants.PowerThreeQuarters; upper = cone_3; low = 0·75; high = 1·0 }))))
-          ≡ is_above (cond a (Some (thousandths 3587)) (cond c (Some (thousandths 1941)) (Some (thousandths 1967)))) M
-      by true b c h = ends TheVariants.PowerQuarter
-      by false true true h = second_of TheVariants.PowerQuarter TheVariants.PowerHalf tt tt tt
-      by false true false h = absurd (h tt)
-      by false false true h = first_of TheVariants.PowerHalf TheVariants.PowerThreeQuarters tt tt tt
-      by false false false h = no_other (beyond TheVariants.PowerThreeQuarters M) ∙ ends TheVariants.PowerThreeQuarters
+      by : (a b c : Bool)
+          → both_beyond (cond a (bracket Reference.Blunt (Reference.Stoney PowerQuarter) 0·0 0·25)
+          (cond b (bracket (Reference.Stoney PowerQuarter) (Reference.Stoney PowerHalf) 0·25 0·5)
+          (cond c (bracket (Reference.Stoney PowerHalf) (Reference.Stoney PowerThreeQuarters) 0·5 0·75)
+          (bracket (Reference.Stoney PowerThreeQuarters) cone_3 0·75 1·0))))
+          ≡ any_beyond (cond a (PowerQuarter ∷ []) (cond b (PowerQuarter ∷ PowerHalf ∷ []) (cond c (PowerHalf ∷ PowerThreeQuarters ∷ []) (PowerThreeQuarters ∷ [])))) M
+      by true b c = sym (one_read PowerQuarter)
+      by false true c = sym (two_read PowerQuarter PowerHalf)
+      by false false true = sym (two_read PowerHalf PowerThreeQuarters)
+      by false false false = refl
 
-  parabolic_where : (k : Float) → both_beyond (parabolic_bracket k) ≡ is_above (marked_above (ParabolicSeries k)) M
-  unfolding parabolic_bracket points round lt
-  parabolic_where k = by (k ≺ 0·5) (k ≺ 0·75)
+  parabolic_reads : (k : Float) → both_beyond (parabolic_bracket k) ≡ any_beyond (tables_read (ParabolicSeries k)) M
+  unfolding parabolic_bracket
+  parabolic_reads k = by (k ≺ 0·5) (k ≺ 0·75)
     where
       by : (a b : Bool)
-          → both_beyond (cond a (record { lower = cone_3; upper = Reference.Stoney TheVariants.ParabolaHalf; low = 0·0; high = 0·5 })
-          (cond b (record { lower = Reference.Stoney TheVariants.ParabolaHalf; upper = Reference.Stoney TheVariants.ParabolaThreeQuarters; low = 0·5; high = 0·75 })
-          (record { lower = Reference.Stoney TheVariants.ParabolaThreeQuarters; upper = Reference.Stoney TheVariants.Parabola; low = 0·75; high = 1·0 })))
-          ≡ (thousandths 1968 ≺ M)
-      by true b = ends TheVariants.ParabolaHalf
-      by false true = rw (ends TheVariants.ParabolaHalf, ends TheVariants.ParabolaThreeQuarters) (or_lower (thousandths 1968 ≺ M) (thousandths 1968 ≺ M) (λ h. h))
-      by false false = first_of TheVariants.ParabolaThreeQuarters TheVariants.Parabola tt tt tt
-
-  haack_where : (beyond TheVariants.VonKarman M || beyond TheVariants.LvHaack M) ≡ (thousandths 1977 ≺ M)
-  unfolding points round lt
-  haack_where = second_of TheVariants.VonKarman TheVariants.LvHaack tt tt tt
+          → both_beyond (cond a (bracket cone_3 (Reference.Stoney ParabolaHalf) 0·0 0·5)
+          (cond b (bracket (Reference.Stoney ParabolaHalf) (Reference.Stoney ParabolaThreeQuarters) 0·5 0·75)
+          (bracket (Reference.Stoney ParabolaThreeQuarters) (Reference.Stoney Parabola) 0·75 1·0)))
+          ≡ any_beyond (cond a (ParabolaHalf ∷ []) (cond b (ParabolaHalf ∷ ParabolaThreeQuarters ∷ []) (ParabolaThreeQuarters ∷ Parabola ∷ []))) M
+      by true b = sym (one_read ParabolaHalf)
+      by false true = sym (two_read ParabolaHalf ParabolaThreeQuarters)
+      by false false = sym (two_read ParabolaThreeQuarters Parabola)
 
   ellipsoid_where : ellipsoid_beyond M ≡ (thousandths 3587 ≺ M)
   unfolding ellipsoid_beyond points
-  ellipsoid_where = ap (λ (b : Bool). cond (M ≺ 0·8) false b) (rw (ends TheVariants.Ellipsoid, ellipsoid_facts.2) (from_first (first_mach TheVariants.Ellipsoid ≼ M) refl)) ∙ from_limit (Some (thousandths 3587)) M late_each.4
+  ellipsoid_where = ap (λ (b : Bool). cond (M ≺ 0·8) false b) (rw (ends Ellipsoid, ellipsoid_facts.2) (from_first (first_mach Ellipsoid ≼ M) refl)) ∙ from_limit (Some (thousandths 3587)) M late_each.4
     where
       from_first : (b : Bool) → (thousandths 1200 ≼ M) ≡ b → cond b (thousandths 3587 ≺ M) false ≡ (thousandths 3587 ≺ M)
       from_first true q = refl
@@ -274,9 +321,14 @@ marked_where Elliptical f φ curve M e n ok =
     let low : curve.mach_low ≡ 0·0 = ap (λ (c : PressureDragCurve). c.mach_low) m.same ∙ kept.low ∙ ap (λ (c : PressureDragCurve). c.mach_low) own in
     let method : curve.transonic ≡ Transonic.Ellipsoid f m.rest = ap (λ (c : PressureDragCurve). c.transonic) m.same ∙ kept.method ∙ ap (λ (c : PressureDragCurve). c.transonic) own in
     rw (low, method, not_above 0·0 M (mach_passed M ok).not_negative) (ellipsoid_where M)
-marked_where (PowerSeries x) f φ curve M e n ok = between_tables (PowerSeries x) f φ curve e n (power_between x) (marked_above (PowerSeries x)) (late (PowerSeries x)) M (power_where M x)
-marked_where (ParabolicSeries k) f φ curve M e n ok = between_tables (ParabolicSeries k) f φ curve e n (parabolic_between k) (marked_above (ParabolicSeries k)) (late (ParabolicSeries k)) M (parabolic_where M k)
-marked_where (Haack c) f φ curve M e n ok = between_tables (Haack c) f φ curve e n (haack_between c) (marked_above (Haack c)) (late (Haack c)) M (haack_where M)
+marked_where (PowerSeries x) f φ curve M e n ok = between_tables (PowerSeries x) f φ curve e n (power_between x) (marked_above (PowerSeries x)) (late (PowerSeries x)) M (power_reads M x ∙ tables_end M (PowerSeries x))
+marked_where (ParabolicSeries k) f φ curve M e n ok = between_tables (ParabolicSeries k) f φ curve e n (parabolic_between k) (marked_above (ParabolicSeries k)) (late (ParabolicSeries k)) M (parabolic_reads M k ∙ tables_end M (ParabolicSeries k))
+marked_where (Haack c) f φ curve M e n ok = between_tables (Haack c) f φ curve e n (haack_between c) (marked_above (Haack c)) (late (Haack c)) M (sym (two_read M VonKarman LvHaack) ∙ tables_end M (Haack c))
+
+-- "if any table that the Rust reads for it at that Mach did": below M_L, where none is read, none of them is left either
+pub tables_where : (shape : NoseShape) (f φ : Float) (curve : PressureDragCurve) (M : Float) → new_curve shape f φ ≡ Ok curve → (f ≈ 0·0) ≡ false → mach_checked M ≡ Ok tt
+    → curve_beyond curve M ≡ any_beyond (tables_read shape) M
+tables_where shape f φ curve M e n ok = marked_where shape f φ curve M e n ok ∙ sym (tables_end M shape)
 
 -- ---- the mark is beside the value and changes none
 
