@@ -1,5 +1,5 @@
 -- Any call on any sheet, cells and marks: accepted, with what it leaves, or refused, with what was given. Nothing past the rows is written, replacing a part writes no row
--- but its own, the next part's where there is one, friction, base and total, and ignite and burnout none but base and total.
+-- but its own, the next part's where there is one, friction, base and total, set column no column but its own, and ignite and burnout no row but base and total.
 use Rattle.std.specs.Prelude.{Ok, Err}
 use Rattle.aero_error.specs.Checks.{Check}
 use mathlib.Core.Path.{◌≡◌, refl, sym, ap, ◌∙◌, subst}
@@ -8,9 +8,10 @@ use mathlib.Core.List.{List}
 use Prim.Native.Nat.{ℕ, ◌+◌, ◌-◌, ◌≤◌, ◌<◌}
 use native.Mathlib.Decide.{dec_lt, ℕ_discrete}
 use native.Mathlib.Omega.{arith}
-use lib.ListN.{length, set, length-set, length-take}
+use lib.ListN.{length, get_or, set, length-set, length-take}
+use Rattle.std.proofs.lemmas.List.{get_or-set_other}
 use lib.Seq.{length-take-le}
-use lib.Ieee.{Float}
+use lib.Ieee.{Float, nan}
 use Rattle.aero_error.specs.declared.AeroError.{AeroError}
 use Rattle.aero_error.specs.CheckLaws.{both_passed}
 use Rattle.sheet_data.specs.declared.Part.{Part}
@@ -20,11 +21,11 @@ use Rattle.sheet_data.specs.Contents.{Contents, contents_of, parts_of}
 use Rattle.sheet_data.specs.Rows.{Unnamed, row_at}
 use Rattle.drag_sheet.specs.Calls.{Answer, Call, replace, insert, remove, set_column, ignite, burnout, applied, nozzle_rows, scope, tries, after, call_test, decision, sheet_with, Called}
 use Rattle.drag_sheet.specs.Planes.{Plane, cell_plane, mark_plane, Lent, cells_lent}
-use Rattle.drag_sheet.specs.Writing.{Scope, rows, overwritten, rewritten}
+use Rattle.drag_sheet.specs.Writing.{Scope, rows, column, overwritten, rewritten}
 use Rattle.drag_sheet.specs.Lists.{Arrays, PastRows}
 use Rattle.drag_sheet.proofs.Verdicts.{never}
 use Rattle.drag_sheet.proofs.Slots.{inserted_long, removed_long}
-use Rattle.drag_sheet.proofs.Overwritten.{Inside, Keeps, keeps, other_rows}
+use Rattle.drag_sheet.proofs.Overwritten.{Inside, Keeps, keeps, other_rows, column_reads}
 use Rattle.drag_sheet.proofs.Answers.{fits_cells, fits_marks, Facts, call_facts, Bounds, SameLayout, same_layout}
 use Rattle.drag_sheet.proofs.Duties.{scope_inside, body_not_part}
 
@@ -112,6 +113,10 @@ not_body F row h n =
 abbrev pub RowKept : {A : Type 0} → Sheet → ℕ → List A → List A → Type 0
 RowKept sheet row xs ys = row_at sheet.settings.count ys row ≡ row_at sheet.settings.count xs row
 
+-- and a cell, or a mark, of such a row; d is what a read past the end would give
+abbrev pub CellKept : {A : Type 0} → Sheet → ℕ → ℕ → A → List A → List A → Type 0
+CellKept sheet row i d xs ys = get_or (row_at sheet.settings.count ys row) i d ≡ get_or (row_at sheet.settings.count xs row) i d
+
 module _ (sheet : Sheet) (arrays : Arrays sheet) (xs : Lent) (r : Answer) (ys : Lent) where
   -- room in either plane
   cells_room : {call : Call} → Accepted call sheet xs → needed sheet.settings.finishes sheet.settings.count ≤ length xs.cells
@@ -161,6 +166,21 @@ module _ (sheet : Sheet) (arrays : Arrays sheet) (xs : Lent) (r : Answer) (ys : 
     where
       taken_few : length (parts_of sheet.design) ≤ sheet.design.count
       taken_few = rw (length-take sheet.design.count sheet.design.parts) (omega arith)
+
+  -- set column writes its column alone: of every row the others stay
+  column_kept : {A : Type 0} (P : Plane A) (ps : List A) (k : ℕ) (M R : Float) → needed sheet.settings.finishes sheet.settings.count ≤ length ps → (row i : ℕ) (d : A) → row < all_rows sheet.settings.finishes → i ≢ k
+      → CellKept sheet row i d ps (overwritten P (column k) (after (set_column k M R) sheet) ps)
+  column_kept P ps k M R room row i d h u = rw (column_reads P (after (set_column k M R) sheet) ps room k row h) (get_or-set_other (row_at sheet.settings.count ps row) k i _ d u)
+
+  pub other_columns_kept : (k : ℕ) (M R : Float) → Called (set_column k M R) sheet xs r ys → (row i : ℕ) → row < all_rows sheet.settings.finishes → i ≢ k
+      → CellKept sheet row i nan xs.cells ys.cells × CellKept sheet row i 0 xs.marks ys.marks
+  other_columns_kept k M R c row i h u = by (ended (set_column k M R) sheet xs r ys c)
+    where
+      by : Ended (set_column k M R) sheet xs r ys → CellKept sheet row i nan xs.cells ys.cells × CellKept sheet row i 0 xs.marks ys.marks
+      by (refusal x q a l) = rw l (refl, refl)
+      by (accepted q a l) =
+          let s = shown (set_column k M R) sheet xs arrays.slots q in
+          rw l (column_kept cell_plane xs.cells k M R (cells_room s) row i nan h u, column_kept mark_plane xs.marks k M R (marks_room s) row i 0 h u)
 
   -- ignite and burnout "write the base and total rows": no part row and no friction row is changed
   pub ignite_rows_kept : (n : Float) → Called (ignite n) sheet xs r ys → (row : ℕ) → row < base_row sheet.settings.finishes → RowKept sheet row xs.cells ys.cells × RowKept sheet row xs.marks ys.marks

@@ -1,4 +1,4 @@
--- What the marks of a sheet say. A part's mark is its curve's, whatever its value and area (`part_marked`), and 0 where there is no curve; any mark that isn't 0 counts for a
+-- What the marks of a sheet say. A part's mark is its curve's, whatever its value and area (`part_marked`), and 0 where there is no curve or no part; any mark that isn't 0 counts for a
 -- total (`any_marked`, `none_marked`); every mark of a build is 0 or 1 (`marks_are_bits`); and a short buffer of either kind is short (`short_either`).
 use Rattle.std.specs.Prelude.{Ok, Err, ◌||◌}
 use mathlib.Core.Path.{◌≡◌, refl, ap, ◌∙◌}
@@ -37,6 +37,11 @@ module _ (c : Contents) (i : ℕ) (h : i < length c.parts) (M : Float) where
   pub level_unmarked : prepared_at c i ≡ Ok Level → part_cell mark_plane c i M ≡ 0
   unfolding part_cell mark_of
   level_unmarked e = rw (lt-ltb i (length c.parts) h, e)
+
+-- nor has the row of a place without a part
+pub empty_unmarked : (c : Contents) (i : ℕ) (M : Float) → length c.parts ≤ i → part_cell mark_plane c i M ≡ 0
+unfolding part_cell
+empty_unmarked c i M h = rw (le-ltb i (length c.parts) h)
 
 -- ---- a total's mark: "if a part mark of its column isn't 0"
 

@@ -111,12 +111,17 @@ module _ {A : Type 0} (P : Plane A) (c : Contents) (xs : List A) (fits : needed 
     unfolding overwritten
     column_keeps = record { long = column_wrote.long; past = column_wrote.past }
 
+    -- each row has that column's cell put anew, and its others as they were
+    pub column_reads : (r : ℕ) → r < all_rows c.settings.finishes → row_at c.settings.count (overwritten P (column k) c xs) r ≡ put r
+    unfolding overwritten
+    column_reads r l = column_wrote.reads r (λ u. absurd (omega (arith, before_named 0 N r u (omega arith))))
+
     pub column_holds : (old : Contents) → old.settings.finishes ≡ c.settings.finishes → old.settings.count ≡ c.settings.count → Holds P old xs → ((r i : ℕ) → i ≢ k → cell_at P old r i ≡ cell_at P c r i) → Holds P c (overwritten P (column k) c xs)
     unfolding overwritten
     column_holds old f e h same = record {
       room = omega (arith, column_wrote.long);
       rows = λ r l.
-          column_wrote.reads r (λ u. absurd (omega (arith, before_named 0 N r u (omega arith))))
+          column_reads r l
           ∙ ap (λ row. set row k (get_or (tab N (λ q. cell_at P c q k)) r P.past)) (ap (λ n. row_at n xs r) (sym e) ∙ h.rows r (rw f l) ∙ ap (λ n. tab n (cell_at P old r)) e)
           ∙ tab_set P.past C (cell_at P old r) (cell_at P c r) k _ (tab_at N (λ q. cell_at P c q k) P.past r l) (λ i m q. same r i q);
     }
