@@ -26,7 +26,7 @@ use Rattle.drag_sheet.specs.Lists.{Arrays, PastRows}
 use Rattle.drag_sheet.proofs.Verdicts.{never}
 use Rattle.drag_sheet.proofs.Slots.{inserted_long, removed_long}
 use Rattle.drag_sheet.proofs.Overwritten.{Inside, Keeps, keeps, other_rows, column_reads}
-use Rattle.drag_sheet.proofs.Answers.{fits_cells, fits_marks, Facts, call_facts, Bounds, SameLayout, same_layout}
+use Rattle.drag_sheet.proofs.Answers.{fits_cells, fits_marks, Facts, call_facts, Bounds, same_layout}
 use Rattle.drag_sheet.proofs.Duties.{scope_inside, body_not_part}
 
 -- accepted, with the buffers as the call leaves them; or refused, with the sheet and the buffers that were given
@@ -81,14 +81,11 @@ shown call sheet xs slots p =
       few = omega (arith, f.fits.parts);
     }
 
--- an accepted call keeps the number of columns, and of a plane the number of cells and what lies past the rows
-pub left_layout : (call : Call) (sheet : Sheet) → SameLayout (contents_of sheet) (after call sheet)
-left_layout call sheet = same_layout call (contents_of sheet)
-
+-- of a plane an accepted call keeps the number of cells and what lies past the rows
 pub left : {A : Type 0} (P : Plane A) (call : Call) (sheet : Sheet) (xs : Lent) (ps : List A) → Accepted call sheet xs → needed sheet.settings.finishes sheet.settings.count ≤ length ps
     → Keeps sheet.settings.finishes sheet.settings.count ps (overwritten P (scope call (after call sheet)) (after call sheet) ps)
 left P call sheet xs ps a room =
-    let w = left_layout call sheet in
+    let w = same_layout call (contents_of sheet) in
     let new = after call sheet in
     let k = keeps P new ps (rw (w.finishes, w.columns) room) (scope call new) (rw (w.finishes, w.columns) (scope_inside call (contents_of sheet) a.within a.few)) in
     rw (w.finishes, w.columns) at k
@@ -141,7 +138,7 @@ module _ (sheet : Sheet) (arrays : Arrays sheet) (xs : Lent) (r : Answer) (ys : 
       → RowKept sheet row ps (overwritten P (scope call (after call sheet)) (after call sheet) ps)
   plane_kept P ps call named e s room row h u =
       let new = after call sheet in
-      let w = left_layout call sheet in
+      let w = same_layout call (contents_of sheet) in
       let below = subst (λ (z : Scope). Inside z sheet.settings.finishes sheet.settings.count) e (scope_inside call (contents_of sheet) s.within s.few) in
       rw e (subst (λ n. row_at n (overwritten P (rows named) new ps) row ≡ row_at n ps row) w.columns
       (other_rows P new ps (rw (w.finishes, w.columns) room) named (rw w.finishes below) row (rw w.finishes h) u))

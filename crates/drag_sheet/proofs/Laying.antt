@@ -82,7 +82,7 @@ module _ {A : Type 0} (P : Plane A) (c : Contents) {places : ℕ} {cells₀ cell
       filled_passed (sym (same_trial 0·0 c) ∙ sym (up_end _ (omega (arith, l.rows.turns)) (omega arith) l.passed))
       (l.rows.done
       ∙ ap (λ (k : ℕ). rows_written c.settings.count (row_of P (with_nozzle 0·0 c)) (from 0 k) cells₀) (sym e)
-      ∙ rows_same c.settings.count _ _ (from 0 places) most_parts _ (from_below 0 places most_parts (omega arith)) (λ r u. above_base 0·0 c P r (omega arith)))
+      ∙ rows_same c.settings.count _ _ 0 places _ (λ r a b. above_base 0·0 c P r (omega arith)))
 
 -- ---- the rows of the whole body
 

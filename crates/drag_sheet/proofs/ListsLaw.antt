@@ -23,9 +23,9 @@ use Rattle.drag_sheet.specs.Writing.{whole, overwritten, rewritten}
 use Rattle.drag_sheet.specs.Model.{opened_model, model_decision, moved, model_after, model_decisions}
 use Rattle.drag_sheet.specs.Lists.{Sequence, stop, go, Arrays, Matches, Agrees, FromOpen}
 use Rattle.drag_sheet.proofs.Overwritten.{Holds, holds_build, whole_holds, keeps}
-use Rattle.drag_sheet.proofs.Answers.{settings_facts, call_facts, Bounds, contents_with, blank_tried}
+use Rattle.drag_sheet.proofs.Answers.{settings_facts, call_facts, Bounds, contents_with, blank_tried, same_layout}
 use Rattle.drag_sheet.proofs.Duties.{narrow, call_holds}
-use Rattle.drag_sheet.proofs.CallLaws.{Ended, accepted, refusal, ended, Accepted, shown, left_layout, left, parts_few}
+use Rattle.drag_sheet.proofs.CallLaws.{Ended, accepted, refusal, ended, Accepted, shown, left, parts_few}
 
 -- ---- one call
 
@@ -105,7 +105,7 @@ kept : (given : Lent) (N : ℕ) (sheet : Sheet) (xs : Lent) (call : Call) → Ke
     → Kept given N (sheet_with (after call sheet) sheet) (rewritten (scope call (after call sheet)) (after call sheet) xs)
 kept given N sheet xs call k p =
     let a = shown call sheet xs k.arrays.slots p in
-    let w = left_layout call sheet in
+    let w = same_layout call (contents_of sheet) in
     let new = after call sheet in
     let few = parts_few call (contents_of sheet) a.within a.few in
     let need : needed new.settings.finishes new.settings.count ≡ needed sheet.settings.finishes sheet.settings.count = rw (w.finishes, w.columns) refl in

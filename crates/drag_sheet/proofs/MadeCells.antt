@@ -5,8 +5,6 @@ use Rattle.aero_error.specs.Checks.{◌for_value◌, Check, Coefficient}
 use mathlib.Core.Path.{◌≡◌, refl, sym, ap, ◌∙◌}
 use mathlib.Core.Bool.{Bool, true, false, cond}
 use mir.Val.{bool_byte}
-use Prim.Native.Nat.{ℕ}
-use native.Mathlib.Omega.{arith}
 use lib.Ieee.{Float}
 use Rattle.elementary.specs.Arithmetic.{◌⊗◌}
 use Rattle.aero_error.specs.declared.AeroError.{AeroError}
@@ -17,11 +15,8 @@ use Rattle.nose_drag.specs.Beyond.{curve_beyond, Drag, drag_of}
 use Rattle.drag_sheet.specs.declared.part.MarkedCell.{MarkedCell}
 use Rattle.drag_sheet.specs.declared.part.Row.{Row}
 use Rattle.drag_sheet.specs.declared.part.Row.TheVariants.{Widening}
+use Rattle.drag_sheet.proofs.Verdicts.{never}
 use Rattle.drag_sheet.specs.Formulas.{cell_of, mark_of, marked_cell, value_of, made_test}
-
--- an answer is no refusal
-neither : {A B : Type 0} {e : AeroError} {x : A} → Err e ≡ Ok x → B
-neither e = let z : ◌≡◌ {A = ℕ} 0 1 = cc in absurd (omega arith)
 
 -- a mark's byte
 pub byte_of : (b : Bool) → bool_byte b ≡ cond b 1 0
@@ -31,9 +26,6 @@ byte_of false = refl
 -- ---- from the curve's answer
 
 module _ (curve : PressureDragCurve) (area M : Float) where
-  marked : PressureDrag → MarkedCell
-  marked drag = record { value = drag.value ⊗ area; mark = cond drag.beyond 1 0 }
-
   abbrev answered : Coefficient → Drag
   answered c = c for_value λ v. Ok (record { value = v; beyond = curve_beyond curve M })
 
@@ -50,7 +42,7 @@ module _ (curve : PressureDragCurve) (area M : Float) where
 
       by : (c : Coefficient) → answered c ≡ Ok drag → scaled c ≡ Ok (record { value = drag.value ⊗ area; mark = cond drag.beyond 1 0 })
       by (Ok v) e = ap (λ (d : PressureDrag). Ok (record { value = d.value ⊗ area; mark = cond d.beyond 1 0 })) (ap inner e)
-      by (Err r) e = neither e
+      by (Err r) e = never refl e
 
   pub widening_refused : {e : AeroError} → drag_of curve M ≡ Err e → marked_cell (Widening curve area) M ≡ Err e
   unfolding drag_of marked_cell cell_of mark_of
@@ -61,7 +53,7 @@ module _ (curve : PressureDragCurve) (area M : Float) where
       handed (Err r) = Err r
 
       by : (c : Coefficient) → answered c ≡ Err e → scaled c ≡ Err e
-      by (Ok v) h = neither (sym h)
+      by (Ok v) h = never h refl
       by (Err r) h = ap handed h
 
 -- ---- to the cell by itself
@@ -87,7 +79,7 @@ module _ (row : Row) (M : Float) where
       by (Ok v) q e =
           let same : record { value = v; mark = mark_of row M } ≡ cell = ap inner e in
           record { value = sym (ap (λ (x : MarkedCell). x.value) same) ∙ sym (ap value_of q); mark = sym (ap (λ (x : MarkedCell). x.mark) same); test = ap made_test q }
-      by (Err r) q e = neither e
+      by (Err r) q e = never refl e
 
   pub refused_cell : {e : AeroError} → marked_cell row M ≡ Err e → made_test (cell_of row M) ≡ Err e
   unfolding marked_cell
@@ -98,5 +90,5 @@ module _ (row : Row) (M : Float) where
       test_in (Err r) = Err r
 
       by : (c : Coefficient) → cell_of row M ≡ c → with_mark c ≡ Err e → made_test (cell_of row M) ≡ Err e
-      by (Ok v) q h = neither (sym h)
+      by (Ok v) q h = never h refl
       by (Err r) q h = ap made_test q ∙ ap test_in h

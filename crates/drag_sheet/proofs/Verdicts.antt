@@ -1,5 +1,5 @@
 -- What a function that fills cells says, from what it found: a refusal, or all of them.
-use Rattle.std.specs.Prelude.{Ok, Err}
+use Rattle.std.specs.Prelude.{Ok, Err, Result}
 use Rattle.aero_error.specs.Checks.{Check}
 use mathlib.Core.Path.{◌≡◌, sym, ◌∙◌}
 use mathlib.Core.List.{List}
@@ -8,7 +8,8 @@ use native.Mathlib.Omega.{arith}
 use Rattle.aero_error.specs.declared.AeroError.{AeroError}
 use Rattle.drag_sheet.specs.Writing.{Filled, chosen}
 
-pub never : {A : Type 0} {check : Check} {e : AeroError} → check ≡ Err e → check ≡ Ok tt → A
+-- no answer is both refused and given
+pub never : {A B E : Type 0} {r : Result A E} {e : E} {x : A} → r ≡ Err e → r ≡ Ok x → B
 never h p = let z : ◌≡◌ {A = ℕ} 0 1 = cc in absurd (omega arith)
 
 pub filled_refused : {A : Type 0} {test r : Check} {e : AeroError} {cells out : List A} → test ≡ Err e → r ≡ Err e → Filled test cells r out

@@ -1,6 +1,6 @@
 -- Which shapes can be marked, and above which Mach number: `by_hand` computes it on either side of a table's end. Of every curve that `new_curve` makes of a nose with a
 -- length, at every Mach number that a curve takes, `tables_where` says that it is marked where a table of its shape is left, `marked_where` from which Mach number on, and
--- `flat_never` that one without a length never is. Of two tables read side by side the one that ends first decides.
+-- `flat_never` that one without a length never is. Of any tables the one that ends first decides (`any_left`).
 use Rattle.std.specs.Prelude.{Ok, Err, Some, None, Option}
 use Rattle.std.proofs.Math.Bool.{or-false}
 use Rattle.aero_error.specs.Checks.{◌for_value◌, Coefficient}
@@ -13,16 +13,20 @@ use Rattle.nose_drag.specs.Answered.{curve_answered}
 use mathlib.Core.Path.{◌≡◌, refl, sym, ap, ◌∙◌, subst}
 use mathlib.Core.Bool.{Bool, true, false, cond, ◌||◌, ◌&&◌}
 use lib.Dec.{T}
-use mathlib.Core.List.{[], ◌∷◌, map}
+use mathlib.Core.List.{List, [], ◌∷◌, map}
 use Prim.Native.Nat.{ℕ}
 use lib.Ieee.{Float, nan, inf, fin, of_bits, round, sum, neg, add, sub, mul, div, lt, eq, le}
+use lib.Ieee.Fits.{and_l, and_r}
 use lib.Ieee.Scale.{finite}
-use lib.Ieee.Positive.{positive, above, above_of_le}
+use lib.Ieee.Positive.{positive, above, above_of_le, le_trans_positive, positive-finite}
+use lib.Ieee.Bits.{is_true}
 use Rattle.elementary.specs.Arithmetic.{◌≺◌, ◌≼◌, ◌≈◌, ◌⊘◌, ◌⊕◌}
 use Rattle.elementary.specs.Constants.{ln_2, 0·0, 0·5, 0·8, 1·0}
 use Rattle.elementary.specs.Steps.{LN}
 use Rattle.nose_drag.specs.Forms.{sin_half_angle}
 use Rattle.elementary.specs.Order.{not_above, lt_le, lt_through}
+use Rattle.elementary.proofs.Floats.{true_t}
+use Rattle.elementary.proofs.Ranges.{reaches}
 use Rattle.elementary.specs.Tests.{between}
 use Rattle.aero_error.specs.Checks.{dimension}
 use Rattle.drag.specs.Pressure.{joint_pressure_drag_coefficient}
@@ -31,16 +35,17 @@ use Rattle.shapes.specs.declared.NoseShape.{NoseShape}
 use Rattle.shapes.specs.declared.NoseShape.TheVariants.{Conical, Ogive, Elliptical, PowerSeries, ParabolicSeries, Haack}
 use Rattle.stoney.specs.declared.StoneyNose.{StoneyNose}
 use Rattle.stoney.specs.declared.StoneyNose.TheVariants.{PowerQuarter, PowerHalf, PowerThreeQuarters, ParabolaHalf, ParabolaThreeQuarters, Parabola, Ellipsoid, LvHaack, VonKarman}
-use Rattle.stoney.specs.Points.{points, first_mach, last_mach}
+use Rattle.stoney.specs.Tables.{noses}
+use Rattle.stoney.specs.Points.{points, first_mach, last_mach, every, holds_at}
 use Rattle.stoney.specs.Lookup.{beyond}
 use Rattle.nose_drag.specs.declared.curve.Reference.{Reference}
 use Rattle.nose_drag.specs.declared.curve.Transonic.{Transonic}
 use Rattle.nose_drag.specs.declared.builder.Bracket.{Bracket}
 use Rattle.nose_drag.specs.declared.curve.PressureDragCurve.{PressureDragCurve}
 use Rattle.nose_drag.specs.Constants.{0·75}
-use Rattle.nose_drag.specs.Curves.{cone_3, bracket, power_bracket, parabolic_bracket, weight_of, interpolated, between_references, cone_curve, step_curve, from_transonic, shaped, ogive, power, parabolic, haack, build, recorded, new_curve, curve_at, Curve}
-use Rattle.nose_drag.specs.Between.{Between, between_method, between_low, power_between, parabolic_between, haack_between, made, own_shape, record_method, built, none_built}
-use Rattle.nose_drag.specs.Beyond.{reference_beyond, ellipsoid_beyond, method_beyond, curve_beyond, drag_of, tables_read, thousandths, marked_above, least, any_beyond, is_above}
+use Rattle.nose_drag.specs.Curves.{power_bracket, parabolic_bracket, weight_of, interpolated, between_references, cone_curve, step_curve, from_transonic, shaped, ogive, power, parabolic, haack, build, recorded, new_curve, curve_at, Curve}
+use Rattle.nose_drag.specs.Between.{Between, between_method, between_low, power_between, parabolic_between, haack_between, made, own_shape, made_same, built, none_built}
+use Rattle.nose_drag.specs.Beyond.{reference_beyond, ellipsoid_beyond, method_beyond, curve_beyond, drag_of, tables_read, thousandths, marked_above, lower_of, least, any_beyond, is_above}
 
 -- ---- by hand: a nose of fineness 3 with a smooth joint, at one Mach number
 
@@ -64,7 +69,52 @@ unfolding curve_beyond ellipsoid_beyond beyond points new_curve build recorded p
     ogive_pressure_drag_factor joint_pressure_drag_coefficient dimension between of_bits round sub add sum neg mul div lt le eq
 by_hand = refl
 
--- ---- of two last Machs the lower one decides
+-- ---- the tables that a shape's curve reads
+
+-- by the test b, and by its answer
+either_way : {P : Type 0} (b : Bool) → (b ≡ true → P) → (b ≡ false → P) → P
+either_way true first other = first refl
+either_way false first other = other refl
+
+-- a parameter below 1/2 is below 3/4
+half_facts : T (positive 0·5) × T (positive 0·75) × T (0·5 ≼ 0·75)
+unfolding of_bits lt le
+half_facts = (tt, tt, tt)
+
+-- "least last Mach": by computing
+pub least_last : (shape : NoseShape) → marked_above shape ≡ least (map last_mach (tables_read shape))
+unfolding least points round lt
+least_last Conical = refl
+least_last (Ogive radius-ratio) = refl
+least_last Elliptical = refl
+least_last (PowerSeries n) =
+    either_way (n ≺ 0·25) (λ a. rw a refl)
+    (λ a. either_way (n ≺ 0·5) (λ b. rw (a, b, is_true _ (lt_through n 0·5 0·75 half_facts.0 half_facts.1 (true_t b) half_facts.2)) refl)
+    (λ b. either_way (n ≺ 0·75) (λ c. rw (a, b, c) refl) (λ c. rw (a, b, c) refl)))
+least_last (ParabolicSeries k) = either_way (k ≺ 0·5) (λ a. rw a refl) (λ a. either_way (k ≺ 0·75) (λ b. rw (a, b) refl) (λ b. rw (a, b) refl))
+least_last (Haack c) = refl
+
+-- the ellipsoid's table begins before it ends
+ellipsoid_facts : T (positive (first_mach Ellipsoid)) × T (first_mach Ellipsoid ≼ last_mach Ellipsoid) × (beyond Ellipsoid (first_mach Ellipsoid) ≡ false)
+unfolding beyond points round lt le
+ellipsoid_facts = (tt, tt, refl)
+
+-- ---- of any tables the one that ends first decides
+
+limit_positive : T (positive 0·8)
+unfolding round of_bits
+limit_positive = tt
+
+-- each table ends above Mach 0.8: by computing
+all_late : T (every (λ nose. positive (last_mach nose) && 0·8 ≺ last_mach nose) noses)
+unfolding points round of_bits lt
+all_late = tt
+
+ends_positive : (nose : StoneyNose) → T (positive (last_mach nose))
+ends_positive nose = and_l (positive (last_mach nose)) (0·8 ≺ last_mach nose) (holds_at (λ nose. positive (last_mach nose) && 0·8 ≺ last_mach nose) all_late nose)
+
+ends_late : (nose : StoneyNose) → T (0·8 ≺ last_mach nose)
+ends_late nose = and_r (positive (last_mach nose)) (0·8 ≺ last_mach nose) (holds_at (λ nose. positive (last_mach nose) && 0·8 ≺ last_mach nose) all_late nose)
 
 endless : (a : Float) → T (positive a) → T (a ≺ inf false)
 unfolding lt
@@ -73,8 +123,8 @@ endless (inf s) p = absurd p
 endless (fin true m e) p = absurd p
 endless (fin false m e) p = tt
 
--- above a positive number is above every lower one
-above_lower : (a b M : Float) → T (positive a) → T (positive b) → T (a ≺ b) → T (b ≺ M) → T (a ≺ M)
+-- above a positive number is above every positive one that isn't higher
+above_lower : (a b M : Float) → T (positive a) → T (positive b) → T (a ≼ b) → T (b ≺ M) → T (a ≺ M)
 above_lower a b M p q h k = go M (above_of_le b M q (lt_le b M k)) k
   where
     go : (w : Float) → T (above w) → T (b ≺ w) → T (a ≺ w)
@@ -82,7 +132,10 @@ above_lower a b M p q h k = go M (above_of_le b M q (lt_le b M k)) k
     go (inf true) r l = absurd r
     go (inf false) r l = endless a p
     go (fin true n d) r l = absurd r
-    go (fin false n d) r l = lt_through a b (fin false n d) q r h (lt_le b (fin false n d) l)
+    go (fin false n d) r l =
+        let w : Float = fin false n d in
+        either_way (a ≺ w) (λ e. true_t e)
+        (λ e. absurd (subst T (not_above w b (le_trans_positive w a b r p q (reaches w a r (positive-finite a p) e) h)) l))
 
 or_lower : (x y : Bool) → (T y → T x) → (x || y) ≡ x
 or_lower true y h = refl
@@ -94,164 +147,77 @@ or_higher true true h = refl
 or_higher true false h = absurd (h tt)
 or_higher false y h = refl
 
--- ---- the Mach that decides, or none
+abbrev Positive : Option Float → Type 0
+Positive None = Unit {0}
+Positive (Some m) = T (positive m)
 
--- it is a positive number above 0.8, so that from it on no method is left for its fit
-abbrev Late : Option Float → Type 0
-Late None = Unit {0}
-Late (Some m) = T (positive m) × T (0·8 ≺ m)
-
-late_each : (T (positive (thousandths 1941)) × T (0·8 ≺ thousandths 1941)) × (T (positive (thousandths 1967)) × T (0·8 ≺ thousandths 1967)) × (T (positive (thousandths 1968)) × T (0·8 ≺ thousandths 1968))
-    × (T (positive (thousandths 1977)) × T (0·8 ≺ thousandths 1977)) × (T (positive (thousandths 3587)) × T (0·8 ≺ thousandths 3587))
-unfolding round of_bits lt
-late_each = ((tt, tt), (tt, tt), (tt, tt), (tt, tt), (tt, tt))
-
-late : (shape : NoseShape) → Late (marked_above shape)
-late Conical = tt
-late (Ogive radius-ratio) = tt
-late Elliptical = late_each.4
-late (PowerSeries n) = by (n ≺ 0·25) (n ≺ 0·5) (n ≺ 0·75)
+least_positive : (noses : List StoneyNose) → Positive (least (map last_mach noses))
+unfolding least
+least_positive [] = tt
+least_positive (nose ∷ rest) = by (least (map last_mach rest)) (least_positive rest)
   where
-    by : (a b c : Bool) → Late (cond a (Some (thousandths 3587)) (cond b (Some (thousandths 1941)) (cond c (Some (thousandths 1941)) (Some (thousandths 1967)))))
-    by true b c = late_each.4
-    by false true c = late_each.0
-    by false false true = late_each.0
-    by false false false = late_each.1
-late (ParabolicSeries k) = late_each.2
-late (Haack c) = late_each.3
+    by : (o : Option Float) → Positive o → Positive (lower_of (last_mach nose) o)
+    by None h = ends_positive nose
+    by (Some y) h = either_way (last_mach nose ≺ y) (λ e. rw e (ends_positive nose)) (λ e. rw e h)
 
-limit_positive : T (positive 0·8)
-unfolding round of_bits
-limit_positive = tt
-
--- below Mach 0.8 nothing is above it
-from_limit : (o : Option Float) (M : Float) → Late o → cond (M ≺ 0·8) false (is_above o M) ≡ is_above o M
-from_limit None M h = by (M ≺ 0·8)
-  where
-    by : (b : Bool) → cond b false false ≡ false
-    by true = refl
-    by false = refl
-from_limit (Some m) M h = by (M ≺ 0·8) refl
-  where
-    by : (b : Bool) → (M ≺ 0·8) ≡ b → cond b false (m ≺ M) ≡ (m ≺ M)
-    by false q = refl
-    by true q = sym (not_above M m (lt_le M m (lt_through M 0·8 m limit_positive h.0 (subst T (sym q) tt) (lt_le 0·8 m h.1))))
-
--- ---- the tables that a shape's curve reads
-
--- "least last Mach": by computing
-pub least_last : (shape : NoseShape) → marked_above shape ≡ least (map last_mach (tables_read shape))
-unfolding least points round lt
-least_last Conical = refl
-least_last (Ogive radius-ratio) = refl
-least_last Elliptical = refl
-least_last (PowerSeries n) = by (n ≺ 0·25) (n ≺ 0·5) (n ≺ 0·75)
-  where
-    by : (a b c : Bool) → cond a (Some (thousandths 3587)) (cond b (Some (thousandths 1941)) (cond c (Some (thousandths 1941)) (Some (thousandths 1967))))
-        ≡ least (map last_mach (cond a (PowerQuarter ∷ []) (cond b (PowerQuarter ∷ PowerHalf ∷ []) (cond c (PowerHalf ∷ PowerThreeQuarters ∷ []) (PowerThreeQuarters ∷ [])))))
-    by true b c = refl
-    by false true c = refl
-    by false false true = refl
-    by false false false = refl
-least_last (ParabolicSeries k) = by (k ≺ 0·5) (k ≺ 0·75)
-  where
-    by : (a b : Bool) → Some (thousandths 1968) ≡ least (map last_mach (cond a (ParabolaHalf ∷ []) (cond b (ParabolaHalf ∷ ParabolaThreeQuarters ∷ []) (ParabolaThreeQuarters ∷ Parabola ∷ []))))
-    by true b = refl
-    by false true = refl
-    by false false = refl
-least_last (Haack c) = refl
-
--- the ellipsoid's table begins before it ends
-ellipsoid_facts : T (positive (thousandths 1200)) × T (thousandths 1200 ≺ thousandths 3587) × (beyond Ellipsoid (thousandths 1200) ≡ false)
-unfolding beyond points round lt
-ellipsoid_facts = (tt, tt, refl)
-
--- where each table ends
 module _ (M : Float) where
-  ends : (nose : StoneyNose) → beyond nose M ≡ (last_mach nose ≺ M)
+  lower_decides : (x : Float) (o : Option Float) → T (positive x) → Positive o → ((x ≺ M) || is_above o M) ≡ is_above (lower_of x o) M
+  lower_decides x None p h = or-false (x ≺ M)
+  lower_decides x (Some y) p h =
+      either_way (x ≺ y)
+      (λ e. rw e (or_lower (x ≺ M) (y ≺ M) (above_lower x y M p h (lt_le x y (true_t e)))))
+      (λ e. rw e (or_higher (x ≺ M) (y ≺ M) (above_lower y x M h p (reaches y x h (positive-finite x p) e))))
+
+  -- any of these tables is left above their least last Mach
+  any_left : (noses : List StoneyNose) → any_beyond noses M ≡ is_above (least (map last_mach noses)) M
+  unfolding least beyond
+  any_left [] = refl
+  any_left (nose ∷ rest) = ap (λ (b : Bool). last_mach nose ≺ M || b) (any_left rest) ∙ lower_decides (last_mach nose) (least (map last_mach rest)) (ends_positive nose) (least_positive rest)
+
+  -- below Mach 0.8 none is
+  none_left : (noses : List StoneyNose) → T (M ≺ 0·8) → any_beyond noses M ≡ false
   unfolding beyond
-  ends nose = refl
+  none_left [] h = refl
+  none_left (nose ∷ rest) h = rw (not_above M (last_mach nose) (lt_le M (last_mach nose) (lt_through M 0·8 (last_mach nose) limit_positive (ends_positive nose) h (lt_le 0·8 (last_mach nose) (ends_late nose))))) (none_left rest h)
 
-  -- of two tables the one that ends first decides
-  first_of : (one other : StoneyNose) → T (positive (last_mach one)) → T (positive (last_mach other)) → T (last_mach one ≺ last_mach other) → (beyond one M || beyond other M) ≡ (last_mach one ≺ M)
-  first_of one other p q h = rw (ends one, ends other) (or_lower (last_mach one ≺ M) (last_mach other ≺ M) (above_lower (last_mach one) (last_mach other) M p q h))
+  from_limit : (noses : List StoneyNose) → cond (M ≺ 0·8) false (any_beyond noses M) ≡ any_beyond noses M
+  from_limit noses = either_way (M ≺ 0·8) (λ e. rw e (sym (none_left noses (true_t e)))) (λ e. rw e refl)
 
-  second_of : (one other : StoneyNose) → T (positive (last_mach one)) → T (positive (last_mach other)) → T (last_mach other ≺ last_mach one) → (beyond one M || beyond other M) ≡ (last_mach other ≺ M)
-  second_of one other p q h = rw (ends one, ends other) (or_higher (last_mach one ≺ M) (last_mach other ≺ M) (above_lower (last_mach other) (last_mach one) M q p h))
+  -- ---- and they are the tables that a method reads
 
-  -- any of one table, and of two
-  one_read : (nose : StoneyNose) → any_beyond (nose ∷ []) M ≡ beyond nose M
-  one_read nose = or-false (beyond nose M)
-
-  two_read : (one other : StoneyNose) → any_beyond (one ∷ other ∷ []) M ≡ (beyond one M || beyond other M)
-  two_read one other = ap (λ (b : Bool). beyond one M || b) (one_read other)
-
-  -- the tables that are read are left above their least last Mach
-  tables_end : (shape : NoseShape) → any_beyond (tables_read shape) M ≡ is_above (marked_above shape) M
-  unfolding points round lt
-  tables_end Conical = refl
-  tables_end (Ogive radius-ratio) = refl
-  tables_end Elliptical = one_read Ellipsoid ∙ ends Ellipsoid
-  tables_end (PowerSeries n) = by (n ≺ 0·25) (n ≺ 0·5) (n ≺ 0·75)
-    where
-      by : (a b c : Bool)
-          → any_beyond (cond a (PowerQuarter ∷ []) (cond b (PowerQuarter ∷ PowerHalf ∷ []) (cond c (PowerHalf ∷ PowerThreeQuarters ∷ []) (PowerThreeQuarters ∷ [])))) M
-          ≡ is_above (cond a (Some (thousandths 3587)) (cond b (Some (thousandths 1941)) (cond c (Some (thousandths 1941)) (Some (thousandths 1967))))) M
-      by true b c = one_read PowerQuarter ∙ ends PowerQuarter
-      by false true c = two_read PowerQuarter PowerHalf ∙ second_of PowerQuarter PowerHalf tt tt tt
-      by false false true = two_read PowerHalf PowerThreeQuarters ∙ first_of PowerHalf PowerThreeQuarters tt tt tt
-      by false false false = one_read PowerThreeQuarters ∙ ends PowerThreeQuarters
-  tables_end (ParabolicSeries k) = by (k ≺ 0·5) (k ≺ 0·75)
-    where
-      by : (a b : Bool) → any_beyond (cond a (ParabolaHalf ∷ []) (cond b (ParabolaHalf ∷ ParabolaThreeQuarters ∷ []) (ParabolaThreeQuarters ∷ Parabola ∷ []))) M ≡ (thousandths 1968 ≺ M)
-      by true b = one_read ParabolaHalf ∙ ends ParabolaHalf
-      by false true = two_read ParabolaHalf ParabolaThreeQuarters ∙ rw (ends ParabolaHalf, ends ParabolaThreeQuarters) (or_lower (thousandths 1968 ≺ M) (thousandths 1968 ≺ M) (λ h. h))
-      by false false = two_read ParabolaThreeQuarters Parabola ∙ first_of ParabolaThreeQuarters Parabola tt tt tt
-  tables_end (Haack c) = two_read VonKarman LvHaack ∙ second_of VonKarman LvHaack tt tt tt
-
-  -- and they are the tables among the references
   abbrev both_beyond : Bracket → Bool
   both_beyond b = reference_beyond b.lower M || reference_beyond b.upper M
 
   power_reads : (n : Float) → both_beyond (power_bracket n) ≡ any_beyond (tables_read (PowerSeries n)) M
   unfolding power_bracket
-  power_reads n = by (n ≺ 0·25) (n ≺ 0·5) (n ≺ 0·75)
-    where
-      by : (a b c : Bool)
-          → both_beyond (cond a (bracket Reference.Blunt (Reference.Stoney PowerQuarter) 0·0 0·25)
-          (cond b (bracket (Reference.Stoney PowerQuarter) (Reference.Stoney PowerHalf) 0·25 0·5)
-          (cond c (bracket (Reference.Stoney PowerHalf) (Reference.Stoney PowerThreeQuarters) 0·5 0·75)
-          (bracket (Reference.Stoney PowerThreeQuarters) cone_3 0·75 1·0))))
-          ≡ any_beyond (cond a (PowerQuarter ∷ []) (cond b (PowerQuarter ∷ PowerHalf ∷ []) (cond c (PowerHalf ∷ PowerThreeQuarters ∷ []) (PowerThreeQuarters ∷ [])))) M
-      by true b c = sym (one_read PowerQuarter)
-      by false true c = sym (two_read PowerQuarter PowerHalf)
-      by false false true = sym (two_read PowerHalf PowerThreeQuarters)
-      by false false false = refl
+  power_reads n =
+      either_way (n ≺ 0·25) (λ a. rw a (sym (or-false (beyond PowerQuarter M))))
+      (λ a. either_way (n ≺ 0·5) (λ b. rw (a, b, or-false (beyond PowerHalf M)) refl)
+      (λ b. either_way (n ≺ 0·75) (λ c. rw (a, b, c, or-false (beyond PowerThreeQuarters M)) refl) (λ c. rw (a, b, c) refl)))
 
   parabolic_reads : (k : Float) → both_beyond (parabolic_bracket k) ≡ any_beyond (tables_read (ParabolicSeries k)) M
   unfolding parabolic_bracket
-  parabolic_reads k = by (k ≺ 0·5) (k ≺ 0·75)
-    where
-      by : (a b : Bool)
-          → both_beyond (cond a (bracket cone_3 (Reference.Stoney ParabolaHalf) 0·0 0·5)
-          (cond b (bracket (Reference.Stoney ParabolaHalf) (Reference.Stoney ParabolaThreeQuarters) 0·5 0·75)
-          (bracket (Reference.Stoney ParabolaThreeQuarters) (Reference.Stoney Parabola) 0·75 1·0)))
-          ≡ any_beyond (cond a (ParabolaHalf ∷ []) (cond b (ParabolaHalf ∷ ParabolaThreeQuarters ∷ []) (ParabolaThreeQuarters ∷ Parabola ∷ []))) M
-      by true b = sym (one_read ParabolaHalf)
-      by false true = sym (two_read ParabolaHalf ParabolaThreeQuarters)
-      by false false = sym (two_read ParabolaThreeQuarters Parabola)
+  parabolic_reads k =
+      either_way (k ≺ 0·5) (λ a. rw a (sym (or-false (beyond ParabolaHalf M))))
+      (λ a. either_way (k ≺ 0·75) (λ b. rw (a, b, or-false (beyond ParabolaThreeQuarters M)) refl) (λ b. rw (a, b, or-false (beyond Parabola M)) refl))
 
-  ellipsoid_where : ellipsoid_beyond M ≡ (thousandths 3587 ≺ M)
-  unfolding ellipsoid_beyond points
-  ellipsoid_where = ap (λ (b : Bool). cond (M ≺ 0·8) false b) (rw (ends Ellipsoid, ellipsoid_facts.2) (from_first (first_mach Ellipsoid ≼ M) refl)) ∙ from_limit (Some (thousandths 3587)) M late_each.4
-    where
-      from_first : (b : Bool) → (thousandths 1200 ≼ M) ≡ b → cond b (thousandths 3587 ≺ M) false ≡ (thousandths 3587 ≺ M)
-      from_first true q = refl
-      from_first false q = none (thousandths 3587 ≺ M) refl
-        where
-          none : (c : Bool) → (thousandths 3587 ≺ M) ≡ c → false ≡ c
-          none false r = refl
-          none true r = absurd (subst T q (lt_le (thousandths 1200) M (above_lower (thousandths 1200) (thousandths 3587) M ellipsoid_facts.0 late_each.4.0 ellipsoid_facts.1 (subst T (sym r) tt))))
+  haack_reads : (c : Float) → (beyond VonKarman M || beyond LvHaack M) ≡ any_beyond (tables_read (Haack c)) M
+  haack_reads c = rw (or-false (beyond LvHaack M)) refl
+
+  -- what isn't at its first point yet isn't beyond its last
+  before_first : (first_mach Ellipsoid ≼ M) ≡ false → any_beyond (Ellipsoid ∷ []) M ≡ false
+  unfolding beyond
+  before_first e =
+      either_way (last_mach Ellipsoid ≺ M)
+      (λ l. absurd (subst T e (lt_le (first_mach Ellipsoid) M (above_lower (first_mach Ellipsoid) (last_mach Ellipsoid) M ellipsoid_facts.0 (ends_positive Ellipsoid) ellipsoid_facts.1 (true_t l)))))
+      (λ l. rw l refl)
+
+  from_first : cond (first_mach Ellipsoid ≼ M) (beyond Ellipsoid M) (beyond Ellipsoid (first_mach Ellipsoid)) ≡ any_beyond (Ellipsoid ∷ []) M
+  from_first = either_way (first_mach Ellipsoid ≼ M) (λ e. rw e (sym (or-false (beyond Ellipsoid M)))) (λ e. rw (e, ellipsoid_facts.2) (sym (before_first e)))
+
+  ellipsoid_reads : ellipsoid_beyond M ≡ any_beyond (tables_read Elliptical) M
+  unfolding ellipsoid_beyond
+  ellipsoid_reads = ap (λ (b : Bool). cond (M ≺ 0·8) false b) from_first ∙ from_limit (Ellipsoid ∷ [])
 
 -- ---- every curve
 
@@ -274,7 +240,7 @@ unfolding step_curve from_transonic
 flat_never shape f φ curve M e z =
     let m = made shape f φ curve e in
     let step : step_curve ≡ m.inner = ap built (rw z at m.own) in
-    let method : curve.transonic ≡ Transonic.Blunt = ap (λ (c : PressureDragCurve). c.transonic) m.same ∙ (record_method shape f m.inner).method ∙ ap (λ (c : PressureDragCurve). c.transonic) (sym step) in
+    let method : curve.transonic ≡ Transonic.Blunt = (made_same m).method ∙ ap (λ (c : PressureDragCurve). c.transonic) (sym step) in
     never curve M (ap (λ (t : Transonic). method_beyond t M) method)
 
 cone_never : (rest f factor M : Float) → method_beyond (cone_curve rest f factor).transonic M ≡ false
@@ -300,35 +266,35 @@ module _ (shape : NoseShape) (f φ : Float) (curve : PressureDragCurve) (e : new
   without_table : (M : Float) → ((rest : Float) (inner : PressureDragCurve) → shaped shape f rest ≡ Ok inner → method_beyond inner.transonic M ≡ false) → curve_beyond curve M ≡ false
   without_table M none =
       let m = made shape f φ curve e in
-      never curve M (ap (λ (c : PressureDragCurve). method_beyond c.transonic M) m.same ∙ ap (λ (t : Transonic). method_beyond t M) (record_method shape f m.inner).method ∙ none m.rest m.inner (own_shape m n))
+      never curve M (ap (λ (t : Transonic). method_beyond t M) (made_same m).method ∙ none m.rest m.inner (own_shape m n))
 
-  -- a curve between two references, of which the first table to end decides
-  between_tables : {lower upper : Reference} {weight : Float} → Between shape lower upper weight → (o : Option Float) → Late o → (M : Float)
-      → (reference_beyond lower M || reference_beyond upper M) ≡ is_above o M → curve_beyond curve M ≡ is_above o M
+  -- a curve between two references that are these tables, or read none
+  between_tables : {lower upper : Reference} {weight : Float} → Between shape lower upper weight → (M : Float)
+      → (reference_beyond lower M || reference_beyond upper M) ≡ any_beyond (tables_read shape) M → curve_beyond curve M ≡ any_beyond (tables_read shape) M
   unfolding curve_beyond
-  between_tables b o l M h = rw (between_low b f φ curve e n, between_method b f φ curve e n, h) (from_limit o M l)
+  between_tables b M h = rw (between_low b f φ curve e n, between_method b f φ curve e n, h) (from_limit M (tables_read shape))
 
--- "a computed table": every curve of a nose that has a length is marked exactly above this Mach
-pub marked_where : (shape : NoseShape) (f φ : Float) (curve : PressureDragCurve) (M : Float) → new_curve shape f φ ≡ Ok curve → (f ≈ 0·0) ≡ false → mach_checked M ≡ Ok tt
-    → curve_beyond curve M ≡ is_above (marked_above shape) M
-unfolding curve_beyond from_transonic
-marked_where Conical f φ curve M e n ok = without_table Conical f φ curve e n M (λ rest inner own. subst (λ (c : Curve). method_beyond (built c).transonic M ≡ false) own (cone_never rest f 1·0 M))
-marked_where (Ogive radius-ratio) f φ curve M e n ok = without_table (Ogive radius-ratio) f φ curve e n M (λ rest inner own. ogive_never rest f radius-ratio inner M own)
-marked_where Elliptical f φ curve M e n ok =
-    let m = made Elliptical f φ curve e in
-    let own : m.inner ≡ from_transonic m.rest (Transonic.Ellipsoid f m.rest) 0·0 = ap built (sym (own_shape m n)) in
-    let kept = record_method Elliptical f m.inner in
-    let low : curve.mach_low ≡ 0·0 = ap (λ (c : PressureDragCurve). c.mach_low) m.same ∙ kept.low ∙ ap (λ (c : PressureDragCurve). c.mach_low) own in
-    let method : curve.transonic ≡ Transonic.Ellipsoid f m.rest = ap (λ (c : PressureDragCurve). c.transonic) m.same ∙ kept.method ∙ ap (λ (c : PressureDragCurve). c.transonic) own in
-    rw (low, method, not_above 0·0 M (mach_passed M ok).not_negative) (ellipsoid_where M)
-marked_where (PowerSeries x) f φ curve M e n ok = between_tables (PowerSeries x) f φ curve e n (power_between x) (marked_above (PowerSeries x)) (late (PowerSeries x)) M (power_reads M x ∙ tables_end M (PowerSeries x))
-marked_where (ParabolicSeries k) f φ curve M e n ok = between_tables (ParabolicSeries k) f φ curve e n (parabolic_between k) (marked_above (ParabolicSeries k)) (late (ParabolicSeries k)) M (parabolic_reads M k ∙ tables_end M (ParabolicSeries k))
-marked_where (Haack c) f φ curve M e n ok = between_tables (Haack c) f φ curve e n (haack_between c) (marked_above (Haack c)) (late (Haack c)) M (sym (two_read M VonKarman LvHaack) ∙ tables_end M (Haack c))
-
--- "if any table that the Rust reads for it at that Mach did": below M_L, where none is read, none of them is left either
+-- "if any table that the Rust reads for it at that Mach did": every curve of a nose that has a length is marked where a table of its shape is left. Below M_L, where none is
+-- read, none is left either
 pub tables_where : (shape : NoseShape) (f φ : Float) (curve : PressureDragCurve) (M : Float) → new_curve shape f φ ≡ Ok curve → (f ≈ 0·0) ≡ false → mach_checked M ≡ Ok tt
     → curve_beyond curve M ≡ any_beyond (tables_read shape) M
-tables_where shape f φ curve M e n ok = marked_where shape f φ curve M e n ok ∙ sym (tables_end M shape)
+unfolding curve_beyond from_transonic
+tables_where Conical f φ curve M e n ok = without_table Conical f φ curve e n M (λ rest inner own. subst (λ (c : Curve). method_beyond (built c).transonic M ≡ false) own (cone_never rest f 1·0 M))
+tables_where (Ogive radius-ratio) f φ curve M e n ok = without_table (Ogive radius-ratio) f φ curve e n M (λ rest inner own. ogive_never rest f radius-ratio inner M own)
+tables_where Elliptical f φ curve M e n ok =
+    let m = made Elliptical f φ curve e in
+    let own : m.inner ≡ from_transonic m.rest (Transonic.Ellipsoid f m.rest) 0·0 = ap built (sym (own_shape m n)) in
+    let low : curve.mach_low ≡ 0·0 = (made_same m).low ∙ ap (λ (c : PressureDragCurve). c.mach_low) own in
+    let method : curve.transonic ≡ Transonic.Ellipsoid f m.rest = (made_same m).method ∙ ap (λ (c : PressureDragCurve). c.transonic) own in
+    rw (low, method, not_above 0·0 M (mach_passed M ok).not_negative) (ellipsoid_reads M)
+tables_where (PowerSeries x) f φ curve M e n ok = between_tables (PowerSeries x) f φ curve e n (power_between x) M (power_reads M x)
+tables_where (ParabolicSeries k) f φ curve M e n ok = between_tables (ParabolicSeries k) f φ curve e n (parabolic_between k) M (parabolic_reads M k)
+tables_where (Haack c) f φ curve M e n ok = between_tables (Haack c) f φ curve e n (haack_between c) M (haack_reads M c)
+
+-- "a computed table": exactly above this Mach
+pub marked_where : (shape : NoseShape) (f φ : Float) (curve : PressureDragCurve) (M : Float) → new_curve shape f φ ≡ Ok curve → (f ≈ 0·0) ≡ false → mach_checked M ≡ Ok tt
+    → curve_beyond curve M ≡ is_above (marked_above shape) M
+marked_where shape f φ curve M e n ok = tables_where shape f φ curve M e n ok ∙ any_left M (tables_read shape) ∙ ap (λ (o : Option Float). is_above o M) (sym (least_last shape))
 
 -- ---- the mark is beside the value and changes none
 

@@ -120,13 +120,18 @@ pub record Same (a b : PressureDragCurve) : Type 0 where
   pub method : a.transonic ≡ b.transonic
   pub low : a.mach_low ≡ b.mach_low
 
-pub record_method : (shape : NoseShape) (f : Float) (inner : PressureDragCurve) → Same (recorded shape f inner) inner
+record_method : (shape : NoseShape) (f : Float) (inner : PressureDragCurve) → Same (recorded shape f inner) inner
 unfolding recorded
 record_method shape f inner = by (0·0 ≺ f) _ (record { method = refl; low = refl })
   where
     by : (t : Bool) (c : PressureDragCurve) → Same c inner → Same (cond t c inner) inner
     by true c s = s
     by false c s = record { method = refl; low = refl }
+
+pub made_same : {shape : NoseShape} {f : Float} {curve : PressureDragCurve} (m : Made shape f curve) → Same curve m.inner
+made_same {shape} {f} m =
+    let kept = record_method shape f m.inner in
+    record { method = ap (λ (c : PressureDragCurve). c.transonic) m.same ∙ kept.method; low = ap (λ (c : PressureDragCurve). c.mach_low) m.same ∙ kept.low }
 
 module _ {shape : NoseShape} {lower upper : Reference} {weight : Float} (b : Between shape lower upper weight) (f φ : Float) (curve : PressureDragCurve)
     (e : new_curve shape f φ ≡ Ok curve) (n : (f ≈ 0·0) ≡ false) where
@@ -135,14 +140,14 @@ module _ {shape : NoseShape} {lower upper : Reference} {weight : Float} (b : Bet
   unfolding interpolated from_transonic
   between_method =
       let m = made shape f φ curve e in
-      ap (λ (c : PressureDragCurve). c.transonic) m.same ∙ (record_method shape f m.inner).method ∙ ap (λ (c : PressureDragCurve). c.transonic) (b.curve f m.rest m.inner (own_shape m n))
+      (made_same m).method ∙ ap (λ (c : PressureDragCurve). c.transonic) (b.curve f m.rest m.inner (own_shape m n))
 
   -- it begins at Mach 0.8
   pub between_low : curve.mach_low ≡ 0·8
   unfolding interpolated from_transonic
   between_low =
       let m = made shape f φ curve e in
-      ap (λ (c : PressureDragCurve). c.mach_low) m.same ∙ (record_method shape f m.inner).low ∙ ap (λ (c : PressureDragCurve). c.mach_low) (b.curve f m.rest m.inner (own_shape m n))
+      (made_same m).low ∙ ap (λ (c : PressureDragCurve). c.mach_low) (b.curve f m.rest m.inner (own_shape m n))
 
   -- and from there on it is the coefficient
   pub between_coefficient : (M : Float) → mach_checked M ≡ Ok tt → (M ≺ 0·8) ≡ false

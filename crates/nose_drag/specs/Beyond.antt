@@ -80,11 +80,7 @@ abbrev pub marked_above : NoseShape → Option Float
 marked_above Conical = None
 marked_above (Ogive radius-ratio) = None
 marked_above Elliptical = Some (thousandths 3587)
-marked_above (PowerSeries n) =
-    cond (n ≺ 0·25) (Some (thousandths 3587))
-    (cond (n ≺ 0·5) (Some (thousandths 1941))
-    (cond (n ≺ 0·75) (Some (thousandths 1941))
-    (Some (thousandths 1967))))
+marked_above (PowerSeries n) = Some (cond (n ≺ 0·25) (thousandths 3587) (cond (n ≺ 0·75) (thousandths 1941) (thousandths 1967)))
 marked_above (ParabolicSeries k) = Some (thousandths 1968)
 marked_above (Haack c) = Some (thousandths 1977)
 
