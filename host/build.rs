@@ -22,7 +22,10 @@ fn main() {
     let folder = folder.canonicalize().expect("it holds a file");
     println!("cargo:rustc-link-search=native={}", folder.display());
     println!("cargo:rustc-link-lib=static=cobalnis");
-    // For the test in C, which links the same archive.
+    // For the build script of a package that depends on this one: DEP_COBALNIS_INCLUDE, the folder
+    // of the header that belongs to the archive.
+    println!("cargo:include={}", here.join("include").display());
+    // For the tests in C, which link the same archive.
     println!(
         "cargo:rustc-env=COBALNIS_ARCHIVE={}",
         folder.join(ARCHIVE).display()

@@ -61,11 +61,11 @@ pub fn check_dimension(what: u32, value: f64, allow_zero: bool) -> (u32, u64) {
     }
 }
 
-pub fn takes_cone_formula(shape: u64, parameter: f64) -> u32 {
+pub fn takes_cone_formula(shape: u64, parameter: f64) -> (u32, u64) {
     if shape > 5 {
-        return NO_SUCH;
+        return (NO_SUCH, 0);
     }
-    u32::from(takes_cone(shape_of(shape, parameter)))
+    (0, u64::from(takes_cone(shape_of(shape, parameter))))
 }
 
 /// The class's number; the original has no such function, so this is the standard library's.

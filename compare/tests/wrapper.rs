@@ -12,9 +12,9 @@ fn ours(result: Result<f64, Refusal>) -> Answer {
     match result {
         Ok(x) => Answer::accepted(x.to_bits()),
         Err(refusal) => Answer {
-            refusal: refusal.number,
-            code: refusal.code,
-            bits: refusal.value.to_bits(),
+            refusal: refusal.number(),
+            code: refusal.code(),
+            bits: refusal.value().to_bits(),
         },
     }
 }

@@ -5,83 +5,162 @@
 //! null (an empty slice's too), a `&mut` overlaps nothing else, and a slice has as many items as
 //! its length. The C side asks nothing of the numbers.
 
+use std::sync::atomic::{AtomicBool, Ordering};
+
+use crate::sheet::CELLS;
 use crate::{COLUMNS, FINISHES, PLACES};
 
-/// Where the words of a sheet lie, after the reference diameter: the number of finishes, their
-/// roughnesses, the body fineness, the number of columns, Machs, Reynolds numbers, the nozzle
-/// diameter, the number of parts, the parts.
+/// Where the number of finishes stands among the words of a sheet. Before it is the reference
+/// diameter.
 pub const FINISHES_AT: usize = 1;
+/// Where the finishes' roughnesses stand.
 pub const ROUGHNESSES_AT: usize = FINISHES_AT + 1;
+/// Where the body fineness stands.
 pub const FINENESS_AT: usize = ROUGHNESSES_AT + FINISHES;
+/// Where the number of columns stands.
 pub const COLUMNS_AT: usize = FINENESS_AT + 1;
+/// Where the Mach numbers stand.
 pub const MACHS_AT: usize = COLUMNS_AT + 1;
+/// Where the Reynolds numbers stand.
 pub const REYNOLDS_AT: usize = MACHS_AT + COLUMNS;
+/// Where the nozzle diameter stands.
 pub const NOZZLE_AT: usize = REYNOLDS_AT + COLUMNS;
+/// Where the number of parts stands.
 pub const PARTS_AT: usize = NOZZLE_AT + 1;
+/// Where the parts stand.
 pub const FIRST_PART: usize = PARTS_AT + 1;
 
-/// Words of a part and of a sheet.
+/// Words of a part.
 pub const PART_WORDS: usize = 8;
+/// Words of a sheet.
 pub const SHEET_WORDS: usize = FIRST_PART + PLACES * PART_WORDS;
 
+/// A part as words.
 pub type PartWords = [u64; PART_WORDS];
+/// A sheet as words.
 pub type SheetWords = [u64; SHEET_WORDS];
 
 pub mod raw;
 
+/// This package's version as the archive tells its own: three digits each for the second and the
+/// third number.
+pub const VERSION: u32 = number(env!("CARGO_PKG_VERSION_MAJOR")) * 1_000_000
+    + number(env!("CARGO_PKG_VERSION_MINOR")) * 1000
+    + number(env!("CARGO_PKG_VERSION_PATCH"));
+
+/// The number of a text of digits.
+const fn number(digits: &str) -> u32 {
+    let (bytes, mut number, mut at) = (digits.as_bytes(), 0, 0);
+    while at < bytes.len() {
+        number = number * 10 + (bytes[at] - b'0') as u32;
+        at += 1;
+    }
+    number
+}
+
+/// All that this package has to agree with the archive in: the interface's number, then in four
+/// digits each the words of a sheet and the most cells (include/cobalnis/numbers.h).
+pub const LAYOUT: u32 = INTERFACE * 100_000_000 + SHEET_WORDS as u32 * 10_000 + CELLS as u32;
+
+const INTERFACE: u32 = 1;
+
+/// The archive's version and layout.
+fn archive() -> (u32, u32) {
+    // SAFETY: no pointer is passed.
+    unsafe { (raw::cobalnis_version(), raw::cobalnis_layout()) }
+}
+
+/// Whether the archive that is linked is the one that this package is for. A program may ask at its
+/// start; the first call of any other function asks as well, and panics where it isn't.
+#[must_use]
+pub fn fits_archive() -> bool {
+    archive() == (VERSION, LAYOUT)
+}
+
+/// Asked by each function below, so that no call ever goes to another archive; only the first looks.
+#[inline]
+fn fits() {
+    static ASKED: AtomicBool = AtomicBool::new(false);
+    if !ASKED.load(Ordering::Relaxed) {
+        let (version, layout) = archive();
+        assert!(
+            fits_archive(),
+            "libcobalnis.a has version {version} and layout {layout}, and this package is for \
+             {VERSION} and {LAYOUT}: make both from one state of the repository"
+        );
+        ASKED.store(true, Ordering::Relaxed);
+    }
+}
+
 /// A status, and the bits of the value or of the value refused.
+#[must_use]
 pub fn formula(which: u32, x: [f64; 5]) -> (u32, u64) {
+    fits();
     let mut bits = 0;
     // SAFETY: `bits` is a word of our own.
-    let status = unsafe { raw::cobalnis_formula(which, x[0], x[1], x[2], x[3], x[4], &mut bits) };
+    let status =
+        unsafe { raw::cobalnis_formula_raw(which, x[0], x[1], x[2], x[3], x[4], &mut bits) };
     (status, bits)
 }
 
 /// A status, and the bits of the value refused.
+#[must_use]
 pub fn check_dimension(what: u32, value: f64, allow_zero: bool) -> (u32, u64) {
+    fits();
     let mut bits = 0;
     // SAFETY: `bits` is a word of our own.
-    let status = unsafe { raw::cobalnis_check_dimension(what, value, allow_zero, &mut bits) };
+    let status = unsafe { raw::cobalnis_check_dimension_raw(what, value, allow_zero, &mut bits) };
     (status, bits)
 }
 
-/// 1 yes, 0 no, 65535 for a number that names no shape.
-pub fn takes_cone_formula(shape: u64, parameter: f64) -> u32 {
-    // SAFETY: no pointer is passed.
-    unsafe { raw::cobalnis_takes_cone_formula(shape, parameter) }
+/// A status, and 1 yes, 0 no.
+#[must_use]
+pub fn takes_cone_formula(shape: u64, parameter: f64) -> (u32, u64) {
+    fits();
+    let mut takes = 0;
+    // SAFETY: `takes` is a word of our own.
+    let status = unsafe { raw::cobalnis_takes_cone_formula_raw(shape, parameter, &mut takes) };
+    (status, takes)
 }
 
 /// The number of the class that the bits are in.
+#[must_use]
 pub fn classify(bits: u64) -> u32 {
+    fits();
     // SAFETY: no pointer is passed.
     unsafe { raw::cobalnis_classify(bits) }
 }
 
 /// A status, and the bits of a point's Mach number and drag.
+#[must_use]
 pub fn nose_point(nose: u32, place: usize) -> (u32, [u64; 2]) {
+    fits();
     let mut out = [0; 2];
     // SAFETY: `out` is two words of our own.
-    let status = unsafe { raw::cobalnis_nose_point(nose, place, &mut out) };
+    let status = unsafe { raw::cobalnis_nose_point_raw(nose, place, &mut out) };
     (status, out)
 }
 
 /// A status, the bits of value, slope and the table's first Mach number, and 1 where the Mach number
 /// is above the table's last one, else 0.
+#[must_use]
 pub fn nose_lookup(nose: u32, mach: f64) -> (u32, [u64; 4]) {
+    fits();
     let mut out = [0; 4];
     // SAFETY: `out` is four words of our own.
-    let status = unsafe { raw::cobalnis_nose_lookup(nose, mach, &mut out) };
+    let status = unsafe { raw::cobalnis_nose_lookup_raw(nose, mach, &mut out) };
     (status, out)
 }
 
 /// A status, and the bits of the value refused; the values go to `values`, how many times a Mach
 /// number was set against a point to `compared`.
 pub fn nose_walk(nose: u32, machs: &[f64], values: &mut [f64], compared: &mut usize) -> (u32, u64) {
+    fits();
     let mut bits = 0;
     // SAFETY: each pointer comes with its slice's own length; `values` and `compared` are borrowed
     // mutably and `bits` is our own, so that nothing overlaps.
     let status = unsafe {
-        raw::cobalnis_nose_walk(
+        raw::cobalnis_nose_walk_raw(
             nose,
             machs.as_ptr(),
             machs.len(),
@@ -103,11 +182,12 @@ pub fn curve(
     out: &mut [u64],
     marks: &mut [u8],
 ) -> (u32, [u64; 3]) {
+    fits();
     let mut about = [0; 3];
     // SAFETY: each pointer comes with its slice's own length, `about` is three words of our own,
     // and `out` and `marks` are borrowed mutably, so that nothing overlaps them.
     let status = unsafe {
-        raw::cobalnis_curve(
+        raw::cobalnis_curve_raw(
             shape,
             parameter,
             fineness,
@@ -126,11 +206,12 @@ pub fn curve(
 
 /// A status, and the bits of the value refused.
 pub fn open(sheet: &mut SheetWords, cells: &mut [f64], marks: &mut [u8]) -> (u32, u64) {
+    fits();
     let mut bits = 0;
     // SAFETY: `sheet`, `cells` and `marks` are three mutable borrows, so apart; both buffers have
     // their own lengths; any bits are an `f64` and a `u8`, and any of them may be written.
     let status = unsafe {
-        raw::cobalnis_open(
+        raw::cobalnis_open_raw(
             sheet,
             cells.as_mut_ptr(),
             cells.len(),
@@ -162,6 +243,7 @@ fn edit(
     cells: &mut [f64],
     marks: &mut [u8],
 ) -> (u32, u64) {
+    fits();
     let mut bits = 0;
     // SAFETY: as for `open`; `part` is borrowed while the others are borrowed mutably, so apart.
     let status = unsafe {
@@ -187,7 +269,7 @@ pub fn insert(
     cells: &mut [f64],
     marks: &mut [u8],
 ) -> (u32, u64) {
-    edit(raw::cobalnis_insert, sheet, place, part, cells, marks)
+    edit(raw::cobalnis_insert_raw, sheet, place, part, cells, marks)
 }
 
 /// A status, and the bits of the value refused.
@@ -198,7 +280,7 @@ pub fn replace(
     cells: &mut [f64],
     marks: &mut [u8],
 ) -> (u32, u64) {
-    edit(raw::cobalnis_replace, sheet, place, part, cells, marks)
+    edit(raw::cobalnis_replace_raw, sheet, place, part, cells, marks)
 }
 
 /// A status, and the bits of the value refused.
@@ -208,10 +290,11 @@ pub fn remove(
     cells: &mut [f64],
     marks: &mut [u8],
 ) -> (u32, u64) {
+    fits();
     let mut bits = 0;
     // SAFETY: as for `open`.
     let status = unsafe {
-        raw::cobalnis_remove(
+        raw::cobalnis_remove_raw(
             sheet,
             place,
             cells.as_mut_ptr(),
@@ -233,10 +316,11 @@ pub fn set_column(
     cells: &mut [f64],
     marks: &mut [u8],
 ) -> (u32, u64) {
+    fits();
     let mut bits = 0;
     // SAFETY: as for `open`.
     let status = unsafe {
-        raw::cobalnis_set_column(
+        raw::cobalnis_set_column_raw(
             sheet,
             column,
             mach,
@@ -258,10 +342,11 @@ pub fn ignite(
     cells: &mut [f64],
     marks: &mut [u8],
 ) -> (u32, u64) {
+    fits();
     let mut bits = 0;
     // SAFETY: as for `open`.
     let status = unsafe {
-        raw::cobalnis_ignite(
+        raw::cobalnis_ignite_raw(
             sheet,
             nozzle_diameter,
             cells.as_mut_ptr(),
@@ -276,10 +361,11 @@ pub fn ignite(
 
 /// A status, and the bits of the value refused.
 pub fn burnout(sheet: &mut SheetWords, cells: &mut [f64], marks: &mut [u8]) -> (u32, u64) {
+    fits();
     let mut bits = 0;
     // SAFETY: as for `open`.
     let status = unsafe {
-        raw::cobalnis_burnout(
+        raw::cobalnis_burnout_raw(
             sheet,
             cells.as_mut_ptr(),
             cells.len(),
@@ -293,25 +379,29 @@ pub fn burnout(sheet: &mut SheetWords, cells: &mut [f64], marks: &mut [u8]) -> (
 
 /// A status, and where the card ends; the settings' words go to `sheet`.
 pub fn read_settings(bytes: &[u8], at: usize, sheet: &mut SheetWords) -> (u32, usize) {
+    fits();
     let mut next = 0;
     // SAFETY: `bytes` comes with its own length, `sheet` is borrowed mutably, so apart from it, and
     // `next` is our own.
-    let status =
-        unsafe { raw::cobalnis_read_settings(bytes.as_ptr(), bytes.len(), at, sheet, &mut next) };
+    let status = unsafe {
+        raw::cobalnis_read_settings_raw(bytes.as_ptr(), bytes.len(), at, sheet, &mut next)
+    };
     (status, next)
 }
 
 /// A status, and where the card ends; the part's words go to `part`.
 pub fn read_part(bytes: &[u8], at: usize, part: &mut PartWords) -> (u32, usize) {
+    fits();
     let mut next = 0;
     // SAFETY: as for `read_settings`.
     let status =
-        unsafe { raw::cobalnis_read_part(bytes.as_ptr(), bytes.len(), at, part, &mut next) };
+        unsafe { raw::cobalnis_read_part_raw(bytes.as_ptr(), bytes.len(), at, part, &mut next) };
     (status, next)
 }
 
 /// How many bytes of `out` were written; 0 if it has fewer than the longest text needs.
 pub fn print(bytes: &[u8], out: &mut [u8]) -> usize {
+    fits();
     // SAFETY: each pointer comes with its slice's own length, and `out` is borrowed mutably, so
     // apart from `bytes`.
     unsafe { raw::cobalnis_print(bytes.as_ptr(), bytes.len(), out.as_mut_ptr(), out.len()) }

@@ -7,10 +7,15 @@ use crate::c;
 /// tests/numbers.rs holds them to.
 #[derive(Debug, Clone, Copy, PartialEq, Eq)]
 pub enum FloatClass {
+    /// Either zero.
     Zero,
+    /// Not zero, and smaller than 2^-1022.
     Subnormal,
+    /// From 2^-1022 on, and finite.
     Normal,
+    /// Either infinity.
     Infinity,
+    /// No number, whatever its sign and its payload are.
     NaN,
 }
 
@@ -27,6 +32,7 @@ impl FloatClass {
 
 /// The class of any 64 bits, whatever their sign and a NaN's payload are. It takes bits and not an
 /// `f64`, since a signalling NaN may turn quiet on its way.
+#[must_use]
 pub fn classify(bits: u64) -> FloatClass {
     FloatClass::ALL[c::classify(bits) as usize]
 }

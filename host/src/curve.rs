@@ -5,12 +5,30 @@ use crate::{c, Refusal};
 /// A nose's shape.
 #[derive(Debug, Clone, Copy, PartialEq)]
 pub enum Shape {
+    /// A cone.
     Conical,
-    Ogive { radius_ratio: f64 },
+    /// An arc of a circle turned about the axis.
+    Ogive {
+        /// The arc's radius over that of the tangent ogive: 1 is tangent, more is secant.
+        radius_ratio: f64,
+    },
+    /// Half an ellipsoid.
     Elliptical,
-    PowerSeries { exponent: f64 },
-    ParabolicSeries { parameter: f64 },
-    Haack { parameter: f64 },
+    /// A radius that grows as a power of the length.
+    PowerSeries {
+        /// The power, from 0 to 1: 1 is a cone.
+        exponent: f64,
+    },
+    /// A piece of a parabola.
+    ParabolicSeries {
+        /// From 0, a cone, to 1, the whole parabola.
+        parameter: f64,
+    },
+    /// A nose of the Haack series.
+    Haack {
+        /// From 0, von Kármán's, to 1/3, the LV-Haack.
+        parameter: f64,
+    },
 }
 
 impl Shape {
@@ -52,9 +70,11 @@ impl Shape {
 }
 
 /// Whether a nose of this shape takes any of the closed form for cones.
+#[must_use]
 pub fn takes_cone_formula(shape: Shape) -> bool {
     let (number, parameter) = shape.number_and_parameter();
-    c::takes_cone_formula(number, parameter) == 1
+    // The number is one of the six, so the status is 0.
+    c::takes_cone_formula(number, parameter).1 == 1
 }
 
 /// The number that stands for the step where the C interface asks for a shape.
@@ -81,6 +101,7 @@ impl Curve {
     }
 
     /// A flat face.
+    #[must_use]
     pub fn step() -> Self {
         match Self::build(STEP, [0.0; 3]) {
             Ok(curve) => curve,
@@ -100,11 +121,13 @@ impl Curve {
     }
 
     /// The coefficient at Mach 0.
+    #[must_use]
     pub fn rest_coefficient(&self) -> f64 {
         self.rest
     }
 
     /// The Mach number from which the transonic method holds.
+    #[must_use]
     pub fn transonic_lower_bound(&self) -> f64 {
         self.low
     }
@@ -121,20 +144,18 @@ impl Curve {
     }
 
     /// The coefficient at a Mach number, and whether a table was read for it beyond its last point.
-    pub fn drag(&self, mach: f64) -> Result<PressureDrag, Refusal> {
+    pub fn drag(&self, mach: f64) -> Result<Drag, Refusal> {
         let (mut bits, mut marks) = ([0], [0]);
         self.ask(&[mach], &mut bits, &mut marks)?;
-        Ok(PressureDrag::of(bits[0], marks[0]))
+        Ok(Drag::of(bits[0], marks[0]))
     }
 
     /// The same at each Mach number, or the refusal of the first one that is refused.
-    pub fn drags(&self, machs: &[f64]) -> Result<Vec<PressureDrag>, Refusal> {
+    pub fn drags(&self, machs: &[f64]) -> Result<Vec<Drag>, Refusal> {
         let (mut bits, mut marks) = (vec![0; machs.len()], vec![0; machs.len()]);
         self.ask(machs, &mut bits, &mut marks)?;
         let drags = bits.into_iter().zip(marks);
-        Ok(drags
-            .map(|(bits, mark)| PressureDrag::of(bits, mark))
-            .collect())
+        Ok(drags.map(|(bits, mark)| Drag::of(bits, mark)).collect())
     }
 
     fn ask(&self, machs: &[f64], bits: &mut [u64], marks: &mut [u8]) -> Result<(), Refusal> {
@@ -143,16 +164,17 @@ impl Curve {
     }
 }
 
-/// A curve's coefficient.
+/// A drag coefficient: a curve's, or a cell of a sheet with its mark.
 #[derive(Debug, Clone, Copy, PartialEq)]
-pub struct PressureDrag {
+pub struct Drag {
+    /// The coefficient.
     pub value: f64,
     /// Whether any table that was read for it was asked above its last Mach number, whatever the
     /// weight of what it answered.
     pub beyond: bool,
 }
 
-impl PressureDrag {
+impl Drag {
     fn of(bits: u64, mark: u8) -> Self {
         Self {
             value: f64::from_bits(bits),
@@ -164,14 +186,23 @@ impl PressureDrag {
 /// A nose that Stoney measured at fineness 3.
 #[derive(Debug, Clone, Copy, PartialEq, Eq, Hash)]
 pub enum Nose {
+    /// Power series, exponent 1/4.
     PowerQuarter,
+    /// Power series, exponent 1/2.
     PowerHalf,
+    /// Power series, exponent 3/4.
     PowerThreeQuarters,
+    /// Parabolic series, parameter 1/2.
     ParabolaHalf,
+    /// Parabolic series, parameter 3/4.
     ParabolaThreeQuarters,
+    /// Parabolic series, parameter 1.
     Parabola,
+    /// Half an ellipsoid.
     Ellipsoid,
+    /// Haack series, parameter 1/3.
     LvHaack,
+    /// Haack series, parameter 0.
     VonKarman,
 }
 
@@ -202,18 +233,21 @@ impl Nose {
     }
 
     /// The first measured Mach number.
+    #[must_use]
     pub fn first_mach(self) -> f64 {
         f64::from_bits(self.lookup(0.0)[2])
     }
 
     /// Drag and slope between the points. At a finite Mach number from 0 up the drag is within
     /// 2^-50 of the exact broken line through the points, and on it at their Mach numbers.
+    #[must_use]
     pub fn value_and_slope(self, mach: f64) -> (f64, f64) {
         let Reading { value, slope, .. } = self.reading(mach);
         (value, slope)
     }
 
     /// The same, and whether the Mach number is beyond the table.
+    #[must_use]
     pub fn reading(self, mach: f64) -> Reading {
         let [value, slope, _, beyond] = self.lookup(mach);
         Reading {
@@ -232,7 +266,9 @@ impl Nose {
 /// What a nose's table says at a Mach number.
 #[derive(Debug, Clone, Copy, PartialEq)]
 pub struct Reading {
+    /// The drag.
     pub value: f64,
+    /// How fast it grows with the Mach number; 0 beyond the last point.
     pub slope: f64,
     /// Whether the Mach number is above the table's last one, so that the last drag is held.
     pub beyond: bool,

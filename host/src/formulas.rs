@@ -9,7 +9,7 @@ macro_rules! numbered {
         /// them in the same order, which tests/numbers.rs holds them to.
         #[derive(Debug, Clone, Copy, PartialEq, Eq)]
         pub enum Formula {
-            $($formula),*
+            $(#[doc = concat!("`", $name, "`.")] $formula),*
         }
 
         impl Formula {
@@ -17,6 +17,7 @@ macro_rules! numbered {
             pub const ALL: &'static [Self] = &[$(Self::$formula),*];
 
             /// The original's name.
+            #[must_use]
             pub fn name(self) -> &'static str {
                 match self {
                     $(Self::$formula => $name),*
@@ -24,6 +25,7 @@ macro_rules! numbered {
             }
 
             /// The formula of a number, if it has one.
+            #[must_use]
             pub fn of(number: u32) -> Option<Self> {
                 $(if number == Self::$formula as u32 {
                     return Some(Self::$formula);
@@ -61,6 +63,7 @@ numbered! {
 
 impl Formula {
     /// The number that `words::formula` takes.
+    #[must_use]
     pub fn number(self) -> u32 {
         self as u32
     }
@@ -84,26 +87,31 @@ fn step<const N: usize>(formula: Formula, arguments: [f64; N]) -> f64 {
 }
 
 /// SQRT: the binary64 number nearest the exact root.
+#[must_use]
 pub fn sqrt(x: f64) -> f64 {
     step(Formula::Sqrt, [x])
 }
 
 /// LN.
+#[must_use]
 pub fn ln(x: f64) -> f64 {
     step(Formula::Ln, [x])
 }
 
 /// EXP.
+#[must_use]
 pub fn exp(y: f64) -> f64 {
     step(Formula::Exp, [y])
 }
 
 /// POW: `x` to the power `y`.
+#[must_use]
 pub fn powf(x: f64, y: f64) -> f64 {
     step(Formula::Powf, [x, y])
 }
 
 /// SIN.
+#[must_use]
 pub fn sin(x: f64) -> f64 {
     step(Formula::Sin, [x])
 }
@@ -218,6 +226,7 @@ pub fn ellipsoid_subsonic_pressure_drag(fineness_ratio: f64, mach: f64) -> Resul
 }
 
 /// [`stagnation_pressure_ratio`] without its test.
+#[must_use]
 pub fn stagnation_ratio(mach: f64) -> f64 {
     step(Formula::StagnationRatio, [mach])
 }

@@ -1,28 +1,28 @@
 //! The sheet, its settings and parts, and cards.
 
-use std::ops::Range;
-
 use crate::c::{
     self, PartWords, SheetWords, COLUMNS_AT, FINENESS_AT, FINISHES_AT, FIRST_PART, MACHS_AT,
     NOZZLE_AT, PARTS_AT, PART_WORDS, REYNOLDS_AT, ROUGHNESSES_AT, SHEET_WORDS,
 };
 use crate::{Refusal, Shape};
 
-/// Columns, parts and finishes that a sheet has room for.
+/// Columns that a sheet has room for.
 pub const COLUMNS: usize = 32;
+/// Parts that a sheet has room for.
 pub const PLACES: usize = 16;
+/// Finishes that a sheet has room for.
 pub const FINISHES: usize = 4;
+/// The most cells that a sheet needs, and as many marks.
+pub const CELLS: usize = rows(FINISHES) * COLUMNS;
 
 /// Rows of cells of a sheet with so many finishes: a row for each place, a friction row for each
 /// finish, base, a total for each finish.
+#[must_use]
 pub const fn rows(finishes: usize) -> usize {
     finishes.saturating_mul(2).saturating_add(PLACES + 1)
 }
 
-/// The first finish's friction row.
-const FRICTION: usize = PLACES;
-
-/// What [`print`] needs: a line for Mach, each place, base, and the friction and the total of each
+/// What [`print()`] needs: a line for Mach, each place, base, and the friction and the total of each
 /// finish, of a name, a space and two digits where there are several of them, a space, 16 digits and a
 /// sign a column (the line for Mach has no signs, but counts as the others), and a line feed.
 pub const LONGEST_TEXT: usize = 4
@@ -34,7 +34,9 @@ pub const LONGEST_TEXT: usize = 4
 /// One column: what the drag is asked at.
 #[derive(Debug, Clone, Copy, PartialEq)]
 pub struct Column {
+    /// Its Mach number.
     pub mach: f64,
+    /// Its Reynolds number, on the body's length.
     pub reynolds: f64,
 }
 
@@ -45,6 +47,7 @@ pub struct Settings {
     pub reference_diameter: f64,
     /// The finishes: from one to [`FINISHES`], each from 0 to 1.
     pub roughnesses: Vec<f64>,
+    /// The body's length over its diameter, above 0.
     pub body_fineness: f64,
     /// At most [`COLUMNS`].
     pub columns: Vec<Column>,
@@ -52,6 +55,7 @@ pub struct Settings {
 
 impl Settings {
     /// The cells that a sheet of these settings needs: [`rows`] a column. It needs as many marks.
+    #[must_use]
     pub fn cell_count(&self) -> usize {
         rows(self.roughnesses.len()).saturating_mul(self.columns.len())
     }
@@ -104,11 +108,14 @@ impl Settings {
 /// A part of the rocket.
 #[derive(Debug, Clone, Copy, PartialEq)]
 pub struct Part {
+    /// Looked at where the part widens.
     pub shape: Shape,
-    /// From 0 to 100, as the diameter.
+    /// From 0 to 100.
     pub length: f64,
+    /// The diameter at its aft end, from 0 to 100; its fore one is that of the part before, and 0
+    /// for the nose.
     pub aft_diameter: f64,
-    /// In radians.
+    /// The joint's angle at its aft end, in radians, from 0 to π/2 where the part widens.
     pub joint_angle: f64,
     /// Wetted area over reference area, from 0 to 10000.
     pub wetted_ratio: f64,
@@ -244,28 +251,38 @@ impl<'lent> Sheet<'lent> {
         self.accept(answer)
     }
 
+    /// What it was opened with, and the columns that were set since.
+    #[must_use]
     pub fn settings(&self) -> Settings {
         Settings::of(&self.words)
     }
 
     /// 0 when coasting.
+    #[must_use]
     pub fn nozzle_diameter(&self) -> f64 {
         f64::from_bits(self.words[NOZZLE_AT])
     }
 
+    /// How many finishes it has.
+    #[must_use]
     pub fn finish_count(&self) -> usize {
         self.words[FINISHES_AT] as usize
     }
 
+    /// How many columns it has.
+    #[must_use]
     pub fn column_count(&self) -> usize {
         self.words[COLUMNS_AT] as usize
     }
 
+    /// How many parts it has.
+    #[must_use]
     pub fn part_count(&self) -> usize {
         self.words[PARTS_AT] as usize
     }
 
     /// The part at a place.
+    #[must_use]
     pub fn part(&self, place: usize) -> Option<Part> {
         if place >= self.part_count() {
             return None;
@@ -274,48 +291,20 @@ impl<'lent> Sheet<'lent> {
         Part::of(&self.words[at..at + PART_WORDS])
     }
 
-    /// The pressure drag of the part at a place, a cell for each column.
-    pub fn part_row(&self, place: usize) -> Option<&[f64]> {
-        (place < self.part_count()).then(|| self.row(place))
-    }
-
-    /// The marks of the part at a place, one for each column.
-    pub fn part_marks(&self, place: usize) -> Option<&[u8]> {
-        (place < self.part_count()).then(|| &self.marks[self.span(place)])
-    }
-
-    /// Skin friction of the whole body in a finish, the first being 0.
-    pub fn friction(&self, finish: usize) -> Option<&[f64]> {
-        (finish < self.finish_count()).then(|| self.row(FRICTION + finish))
-    }
-
-    /// Drag of the blunt end, less what the nozzle fills of it.
-    pub fn base(&self) -> &[f64] {
-        self.row(self.base_row())
-    }
-
-    /// All part rows, a finish's friction, and base.
-    pub fn total(&self, finish: usize) -> Option<&[f64]> {
-        (finish < self.finish_count()).then(|| self.row(self.base_row() + 1 + finish))
-    }
-
-    /// The marks of the parts together, the same beside every finish's total.
-    pub fn total_marks(&self, finish: usize) -> Option<&[u8]> {
-        let row = self.base_row() + 1 + finish;
-        (finish < self.finish_count()).then(|| &self.marks[self.span(row)])
-    }
-
     /// All lent cells.
+    #[must_use]
     pub fn cells(&self) -> &[f64] {
         self.cells
     }
 
     /// All lent marks, which lie as the cells do.
+    #[must_use]
     pub fn marks(&self) -> &[u8] {
         self.marks
     }
 
     /// The sheet's words, as the C interface has them.
+    #[must_use]
     pub fn words(&self) -> &SheetWords {
         &self.words
     }
@@ -327,24 +316,11 @@ impl<'lent> Sheet<'lent> {
         c::settle(&mut self.cells[..used]);
         Ok(())
     }
-
-    fn base_row(&self) -> usize {
-        FRICTION + self.finish_count()
-    }
-
-    fn row(&self, row: usize) -> &[f64] {
-        &self.cells[self.span(row)]
-    }
-
-    /// Where a row lies among the cells and among the marks.
-    fn span(&self, row: usize) -> Range<usize> {
-        let count = self.column_count();
-        row * count..(row + 1) * count
-    }
 }
 
 /// What the program `sheet` prints for a stream of cards, with a `+` right after each marked cell; for
 /// no bytes the names of a sheet with no columns and no parts.
+#[must_use]
 pub fn print(stream: &[u8]) -> String {
     let mut text = vec![0; LONGEST_TEXT];
     let length = c::print(stream, &mut text);

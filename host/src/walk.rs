@@ -19,17 +19,20 @@ pub struct Walk<'a> {
 
 impl<'a> Walk<'a> {
     /// The Mach numbers that were asked.
+    #[must_use]
     pub fn machs(&self) -> &'a [f64] {
         self.machs
     }
 
     /// The drags, one for each Mach number.
+    #[must_use]
     pub fn drags(&self) -> &'a [f64] {
         self.drags
     }
 
     /// How many times a Mach number was set against a point of the table: at most as many as there
     /// are Mach numbers and points together.
+    #[must_use]
     pub fn compared(&self) -> usize {
         self.compared
     }

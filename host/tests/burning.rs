@@ -19,11 +19,7 @@ const BAD: [f64; 6] = [
     100.0f64.next_up(),
     f64::INFINITY,
 ];
-const OUTSIDE: Refusal = Refusal {
-    number: 11,
-    code: 0,
-    value: 0.0,
-};
+const OUTSIDE: Refusal = Refusal::HouseInterval;
 
 fn settings() -> Settings {
     let column = |mach| Column {

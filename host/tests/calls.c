@@ -10,24 +10,25 @@ static void raw_formulas(void)
 {
     uint64_t bits = 7;
     const uint32_t base = COBALNIS_FORMULA_BASE_DRAG_COEFFICIENT;
-    CHECK(cobalnis_formula(base, 0, NAN, NAN, NAN, NAN, &bits) == 0);
+    CHECK(cobalnis_formula_raw(base, 0, NAN, NAN, NAN, NAN, &bits) == 0);
     CHECK(cobalnis_double(bits) == 0.12);
-    CHECK(cobalnis_formula(base, NAN, 0, 0, 0, 0, &bits) == DOMAIN_OF(COBALNIS_MACH));
+    CHECK(cobalnis_formula_raw(base, NAN, 0, 0, 0, 0, &bits) == DOMAIN_OF(COBALNIS_MACH));
     CHECK(bits == SHOWN_NAN);
     bits = 7;
     const uint32_t none = COBALNIS_FORMULA_LV_HAACK + 1;
-    CHECK(cobalnis_formula(none, 0, 0, 0, 0, 0, &bits) == COBALNIS_NO_SUCH && bits == 7);
+    CHECK(cobalnis_formula_raw(none, 0, 0, 0, 0, 0, &bits) == COBALNIS_NO_SUCH && bits == 7);
     CHECK(cobalnis_von_karman() == 0 && cobalnis_lv_haack() == 1.0 / 3);
 
-    CHECK(cobalnis_check_dimension(2, -0.0, true, &bits) == 0 && bits == 0);
-    CHECK(cobalnis_check_dimension(19, 0, false, &bits) == DOMAIN_OF(COBALNIS_BODY_FINENESS));
+    CHECK(cobalnis_check_dimension_raw(2, -0.0, true, &bits) == 0 && bits == 0);
+    CHECK(cobalnis_check_dimension_raw(19, 0, false, &bits) == DOMAIN_OF(COBALNIS_BODY_FINENESS));
     bits = 7;
-    CHECK(cobalnis_check_dimension(23, 1, false, &bits) == COBALNIS_NO_SUCH && bits == 7);
-    CHECK(cobalnis_check_dimension(0, 1, false, &bits) == COBALNIS_NO_SUCH && bits == 7);
+    CHECK(cobalnis_check_dimension_raw(23, 1, false, &bits) == COBALNIS_NO_SUCH && bits == 7);
+    CHECK(cobalnis_check_dimension_raw(0, 1, false, &bits) == COBALNIS_NO_SUCH && bits == 7);
 
-    CHECK(cobalnis_takes_cone_formula(COBALNIS_CONICAL, 0) == 1);
-    CHECK(cobalnis_takes_cone_formula(COBALNIS_HAACK, 0) == 0);
-    CHECK(cobalnis_takes_cone_formula(6, 0) == COBALNIS_NO_SUCH);
+    CHECK(cobalnis_takes_cone_formula_raw(COBALNIS_CONICAL, 0, &bits) == COBALNIS_OK && bits == 1);
+    CHECK(cobalnis_takes_cone_formula_raw(COBALNIS_HAACK, 0, &bits) == COBALNIS_OK && bits == 0);
+    bits = 7;
+    CHECK(cobalnis_takes_cone_formula_raw(6, 0, &bits) == COBALNIS_NO_SUCH && bits == 7);
 }
 
 /* Each pattern has its class with either sign. */
@@ -72,16 +73,16 @@ static void bits_of_numbers(void)
 static void raw_noses(void)
 {
     uint64_t two[2] = {7, 7}, four[4] = {7, 7, 7, 7};
-    CHECK(cobalnis_nose_point(COBALNIS_NOSE_ELLIPSOID, 0, two) == 0);
+    CHECK(cobalnis_nose_point_raw(COBALNIS_NOSE_ELLIPSOID, 0, two) == 0);
     CHECK(cobalnis_double(two[0]) == 1.2 && cobalnis_double(two[1]) == 0.111);
-    CHECK(cobalnis_nose_point(COBALNIS_NOSE_ELLIPSOID, 12, two) == COBALNIS_NO_PLACE);
-    CHECK(cobalnis_nose_point(9, 0, two) == COBALNIS_NO_SUCH);
-    CHECK(cobalnis_nose_lookup(9, 1, four) == COBALNIS_NO_SUCH && four[0] == 7 && four[3] == 7);
-    CHECK(cobalnis_nose_lookup(COBALNIS_NOSE_ELLIPSOID, 1.2, four) == 0);
+    CHECK(cobalnis_nose_point_raw(COBALNIS_NOSE_ELLIPSOID, 12, two) == COBALNIS_NO_PLACE);
+    CHECK(cobalnis_nose_point_raw(9, 0, two) == COBALNIS_NO_SUCH);
+    CHECK(cobalnis_nose_lookup_raw(9, 1, four) == COBALNIS_NO_SUCH && four[0] == 7 && four[3] == 7);
+    CHECK(cobalnis_nose_lookup_raw(COBALNIS_NOSE_ELLIPSOID, 1.2, four) == 0);
     CHECK(cobalnis_double(four[0]) == 0.111 && cobalnis_double(four[2]) == 1.2 && four[3] == 0);
-    CHECK(cobalnis_nose_lookup(COBALNIS_NOSE_ELLIPSOID, 3.587, four) == 0 && four[3] == 0);
-    CHECK(cobalnis_nose_lookup(COBALNIS_NOSE_ELLIPSOID, INFINITY, four) == 0 && four[3] == 1);
-    CHECK(cobalnis_nose_lookup(COBALNIS_NOSE_ELLIPSOID, NAN, four) == 0 && four[3] == 0);
+    CHECK(cobalnis_nose_lookup_raw(COBALNIS_NOSE_ELLIPSOID, 3.587, four) == 0 && four[3] == 0);
+    CHECK(cobalnis_nose_lookup_raw(COBALNIS_NOSE_ELLIPSOID, INFINITY, four) == 0 && four[3] == 1);
+    CHECK(cobalnis_nose_lookup_raw(COBALNIS_NOSE_ELLIPSOID, NAN, four) == 0 && four[3] == 0);
 }
 
 static void raw_walk(void)
@@ -91,18 +92,18 @@ static void raw_walk(void)
     double values[5] = {7, 7, 7, 7, 7};
     size_t compared = 99;
     uint64_t bits = 7;
-    CHECK(cobalnis_nose_walk(COBALNIS_NOSE_VON_KARMAN, machs, 4, values, 5, &compared, &bits) == 0);
+    CHECK(cobalnis_nose_walk_raw(COBALNIS_NOSE_VON_KARMAN, machs, 4, values, 5, &compared, &bits) == 0);
     CHECK(values[0] == 0 && values[3] == 0 && values[4] == 7 && compared == 7 && bits == 0);
     compared = 5;
     values[0] = 6;
-    CHECK(cobalnis_nose_walk(9, machs, 4, values, 5, &compared, &bits) == COBALNIS_NO_SUCH);
-    CHECK(cobalnis_nose_walk(0, machs, 4, values, 3, &compared, &bits) == COBALNIS_FEW_CELLS);
-    CHECK(cobalnis_nose_walk(0, falling, 2, values, 5, &compared, &bits) == COBALNIS_FALLING_MACH);
+    CHECK(cobalnis_nose_walk_raw(9, machs, 4, values, 5, &compared, &bits) == COBALNIS_NO_SUCH);
+    CHECK(cobalnis_nose_walk_raw(0, machs, 4, values, 3, &compared, &bits) == COBALNIS_FEW_CELLS);
+    CHECK(cobalnis_nose_walk_raw(0, falling, 2, values, 5, &compared, &bits) == COBALNIS_FALLING_MACH);
     CHECK(bits == 0);
-    CHECK(cobalnis_nose_walk(0, falling, 3, values, 5, &compared, &bits) ==
+    CHECK(cobalnis_nose_walk_raw(0, falling, 3, values, 5, &compared, &bits) ==
           DOMAIN_OF(COBALNIS_MACH));
     CHECK(cobalnis_double(bits) == -1);
-    CHECK(cobalnis_nose_walk(0, bad, 2, values, 5, &compared, &bits) == DOMAIN_OF(COBALNIS_MACH));
+    CHECK(cobalnis_nose_walk_raw(0, bad, 2, values, 5, &compared, &bits) == DOMAIN_OF(COBALNIS_MACH));
     CHECK(bits == SHOWN_NAN && compared == 5 && values[0] == 6);
 }
 
@@ -132,22 +133,22 @@ static void raw_curve(void)
     const double bad[2] = {0, -1};
     uint64_t out[2] = {7, 7}, about[3] = {7, 7, 7};
     uint8_t marks[2] = {7, 7};
-    CHECK(cobalnis_curve(COBALNIS_STEP, NAN, NAN, NAN, machs, 2, out, 2, marks, 2, about) == 0);
+    CHECK(cobalnis_curve_raw(COBALNIS_STEP, NAN, NAN, NAN, machs, 2, out, 2, marks, 2, about) == 0);
     CHECK(cobalnis_double(out[0]) == 0.85 && cobalnis_double(about[1]) == 0.85);
     CHECK(about[0] == 0 && about[2] == 0 && marks[0] == 0 && marks[1] == 0);
     marks[0] = marks[1] = 7;
-    CHECK(cobalnis_curve(COBALNIS_STEP, 0, 0, 0, machs, 2, out, 1, marks, 2, about) ==
+    CHECK(cobalnis_curve_raw(COBALNIS_STEP, 0, 0, 0, machs, 2, out, 1, marks, 2, about) ==
           COBALNIS_FEW_CELLS);
-    CHECK(cobalnis_curve(COBALNIS_STEP, 0, 0, 0, machs, 2, out, 2, marks, 1, about) ==
+    CHECK(cobalnis_curve_raw(COBALNIS_STEP, 0, 0, 0, machs, 2, out, 2, marks, 1, about) ==
           COBALNIS_FEW_CELLS);
-    CHECK(cobalnis_curve(COBALNIS_STEP, 0, 0, 0, bad, 2, out, 2, marks, 2, about) ==
+    CHECK(cobalnis_curve_raw(COBALNIS_STEP, 0, 0, 0, bad, 2, out, 2, marks, 2, about) ==
           DOMAIN_OF(COBALNIS_MACH));
     CHECK(cobalnis_double(about[0]) == -1);
-    CHECK(cobalnis_curve(COBALNIS_OGIVE, 0.9, 1, 0, machs, 2, out, 2, marks, 2, about) ==
+    CHECK(cobalnis_curve_raw(COBALNIS_OGIVE, 0.9, 1, 0, machs, 2, out, 2, marks, 2, about) ==
           COBALNIS_OGIVE_RATIO);
-    CHECK(cobalnis_curve(COBALNIS_HAACK, 0.4, 1, 0, machs, 2, out, 2, marks, 2, about) ==
+    CHECK(cobalnis_curve_raw(COBALNIS_HAACK, 0.4, 1, 0, machs, 2, out, 2, marks, 2, about) ==
           COBALNIS_HAACK_ABOVE);
-    CHECK(cobalnis_curve(7, 0, 1, 0, machs, 2, out, 2, marks, 2, about) == COBALNIS_NO_SUCH);
+    CHECK(cobalnis_curve_raw(7, 0, 1, 0, machs, 2, out, 2, marks, 2, about) == COBALNIS_NO_SUCH);
     CHECK(marks[0] == 7 && marks[1] == 7);
 }
 
@@ -200,8 +201,12 @@ static void nose_formulas(void)
     CHECK(cobalnis_ellipsoid_subsonic_pressure_drag(0.5, 0, &x) == 0 && x == 0.01);
     CHECK(cobalnis_ellipsoid_subsonic_pressure_drag(0.5, 0.8, &x) ==
           DOMAIN_OF(COBALNIS_ELLIPSOID_MACH));
-    CHECK(cobalnis_check(COBALNIS_REYNOLDS, 1, false, &x) == 0 && x == 0);
-    CHECK(cobalnis_check(COBALNIS_REYNOLDS, -2, true, &x) == DOMAIN_OF(COBALNIS_REYNOLDS));
+    bool takes = false;
+    CHECK(cobalnis_takes_cone_formula(COBALNIS_OGIVE, 1, &takes) == COBALNIS_OK && takes);
+    CHECK(cobalnis_takes_cone_formula(COBALNIS_STEP, 1, &takes) == COBALNIS_NO_SUCH && takes);
+    CHECK(cobalnis_takes_cone_formula(COBALNIS_HAACK, 0, &takes) == COBALNIS_OK && !takes);
+    CHECK(cobalnis_check_dimension(COBALNIS_REYNOLDS, 1, false, &x) == 0 && x == 0);
+    CHECK(cobalnis_check_dimension(COBALNIS_REYNOLDS, -2, true, &x) == DOMAIN_OF(COBALNIS_REYNOLDS));
     CHECK(x == -2);
 
     CHECK(cobalnis_stoney_point(COBALNIS_NOSE_VON_KARMAN, 0, &x, &y) == 0 && x == 0.8 && y == 0);
@@ -220,7 +225,7 @@ static void nose_formulas(void)
 static bool is_formula(double x, uint32_t which, double a, double b, double c, double d, double e)
 {
     uint64_t bits = 0;
-    return cobalnis_formula(which, a, b, c, d, e, &bits) == 0 && cobalnis_double(bits) == x;
+    return cobalnis_formula_raw(which, a, b, c, d, e, &bits) == 0 && cobalnis_double(bits) == x;
 }
 
 static void arguments_in_order(void)
@@ -270,9 +275,21 @@ static void curves(void)
     CHECK(cobalnis_curve_new(7, 0, 1, 0, &curve, &x) == COBALNIS_NO_SUCH);
 }
 
+static void versions(void)
+{
+    CHECK(cobalnis_version() == COBALNIS_VERSION && cobalnis_layout() == COBALNIS_LAYOUT);
+    CHECK(cobalnis_fits_header());
+    CHECK(COBALNIS_OK == 0 && cobalnis_number(COBALNIS_OK) == 0);
+    CHECK(strcmp(cobalnis_message(DOMAIN_OF(3)), "a number that no formula takes") == 0);
+    CHECK(strcmp(cobalnis_message(COBALNIS_OK), "accepted") == 0);
+    CHECK(strcmp(cobalnis_message(12), "no status of this library") == 0);
+    CHECK(strstr(cobalnis_message(COBALNIS_NO_SUCH), "names no formula") != NULL);
+}
+
 int main(void)
 {
     CHECK(cobalnis_number(DOMAIN_OF(22)) == 1 && cobalnis_code(DOMAIN_OF(22)) == 22);
+    versions();
     raw_formulas();
     classes();
     bits_of_numbers();

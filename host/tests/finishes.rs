@@ -8,7 +8,7 @@ use cobalnis::words::{self, SheetWords, FINISHES_AT, NOZZLE_AT, PARTS_AT, ROUGHN
 use cobalnis::{print, rows, Column, Part, Quantity, Refusal, Settings, Shape, Sheet};
 use cobalnis::{COLUMNS, FINISHES, PLACES};
 
-use common::{domain, refusal, stream, INFINITY, NAN};
+use common::{domain, stream, INFINITY, NAN};
 
 /// Polished, painted, painted badly, unfinished.
 const ROUGHNESSES: [f64; FINISHES] = [2e-6, 2e-5, 6e-5, 2e-4];
@@ -147,11 +147,11 @@ fn how_many() {
     for count in [0, 5, 300] {
         let mut all = settings(&vec![NAN; count]);
         all.body_fineness = 0.0;
-        assert_eq!(opened(&all, 0), Err(refusal(19)), "{count}");
+        assert_eq!(opened(&all, 0), Err(Refusal::FinishCount), "{count}");
         all.reference_diameter = 0.0;
-        assert_eq!(opened(&all, 0), Err(refusal(11)));
+        assert_eq!(opened(&all, 0), Err(Refusal::HouseInterval));
         all.columns = vec![column(0.0, 0.0); COLUMNS + 1];
-        assert_eq!(opened(&all, 0), Err(refusal(7)));
+        assert_eq!(opened(&all, 0), Err(Refusal::ManyColumns));
     }
 }
 
@@ -164,14 +164,14 @@ fn roughnesses_and_cells() {
                 let mut all = settings(&ROUGHNESSES[..count]);
                 all.body_fineness = 0.0;
                 all.roughnesses[at] = bad;
-                assert_eq!(opened(&all, 0), Err(refusal(11)), "{bad}");
+                assert_eq!(opened(&all, 0), Err(Refusal::HouseInterval), "{bad}");
             }
         }
         let mut all = settings(&[0.0, -0.0, 1.0, 0.5][..count]);
         let enough = all.cell_count();
         assert_eq!(enough, (17 + 2 * count) * 3);
         assert_eq!(opened(&all, enough), Ok(()));
-        assert_eq!(opened(&all, enough - 1), Err(refusal(10)));
+        assert_eq!(opened(&all, enough - 1), Err(Refusal::FewCells));
         all.body_fineness = 0.0;
         let refused = domain(Quantity::BodyFineness, 0.0);
         assert_eq!(opened(&all, 0), Err(refused));
@@ -249,7 +249,7 @@ fn cards() {
             (ROUGHNESSES[..count].to_vec(), 18 + 8 * count)
         );
         for end in 1..bytes.len() {
-            assert_eq!(Settings::read(&bytes[..end], 0), Err(refusal(4)));
+            assert_eq!(Settings::read(&bytes[..end], 0), Err(Refusal::Ended));
         }
         let mut words = [7; words::SHEET_WORDS];
         assert_eq!(words::read_settings(&bytes, 0, &mut words), (0, next));
@@ -259,13 +259,16 @@ fn cards() {
             .all(|&w| w == 0));
     }
     for count in [0, 5, 255] {
-        assert_eq!(Settings::read(&card(0x15, count, &[]), 0), Err(refusal(19)));
+        assert_eq!(
+            Settings::read(&card(0x15, count, &[]), 0),
+            Err(Refusal::FinishCount)
+        );
     }
     for bits in [0x17, 0x1f, 0x10, 0x12, 0x14] {
-        assert_eq!(Settings::read(&[bits], 0), Err(refusal(6)));
+        assert_eq!(Settings::read(&[bits], 0), Err(Refusal::Field));
     }
     for bits in [0x20, 0x35, 0x40, 0x80, 0xff] {
-        assert_eq!(Settings::read(&[bits], 0), Err(refusal(5)));
+        assert_eq!(Settings::read(&[bits], 0), Err(Refusal::Reserved));
     }
     // Without bit 4 there is one finish, of roughness 0 or bit 1's.
     let (read, _) = Settings::read(&stream(), 0).unwrap();

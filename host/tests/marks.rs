@@ -4,10 +4,10 @@
 mod common;
 
 use cobalnis::words::{self, PartWords, SheetWords, PART_WORDS};
-use cobalnis::{print, rows, Column, Curve, Nose, Part, PressureDrag, Refusal, Settings, Shape};
+use cobalnis::{print, rows, Column, Curve, Drag, Nose, Part, Refusal, Settings, Shape};
 use cobalnis::{Sheet, COLUMNS, FINISHES, PLACES};
 
-use common::{domain, refusal, stream, INFINITY, NAN};
+use common::{domain, stream, INFINITY, NAN};
 
 /// Where the tables of power 1/4 and power 1/2 end.
 const QUARTER: f64 = 3.587;
@@ -100,7 +100,7 @@ fn lists_of_machs() {
     assert_eq!(marks, [true, false, false, true, false]);
     let values: Vec<f64> = drags.iter().map(|drag| drag.value).collect();
     assert_eq!(curve.coefficients(&machs), Ok(values));
-    let one = PressureDrag {
+    let one = Drag {
         value: curve.coefficient(5.0).unwrap(),
         beyond: true,
     };
@@ -197,11 +197,11 @@ fn short_marks() {
     for (cells, marks) in [(count, count - 1), (count + 9, 0), (count - 1, count + 9)] {
         let (mut cells, mut marks) = (vec![0.0; cells], vec![0; marks]);
         let opened = Sheet::open(&given, &mut cells, &mut marks);
-        assert_eq!(opened.map(|_| ()), Err(refusal(10)));
+        assert_eq!(opened.map(|_| ()), Err(Refusal::FewCells));
     }
     let (mut cells, mut marks) = (vec![0.0; count], vec![0; count]);
     assert!(Sheet::open(&given, &mut cells, &mut marks).is_ok());
-    assert!(refusal(10).to_string().contains("marks"));
+    assert!(Refusal::FewCells.to_string().contains("marks"));
 }
 
 /// A refused call leaves all marks as they were.

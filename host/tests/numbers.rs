@@ -5,7 +5,7 @@ use cobalnis::{FloatClass, Formula};
 /// The names of the header's enum whose first line is `first`, without their prefix; only that line
 /// may have a number of its own.
 fn enum_of(first: &'static str, prefix: &str) -> Vec<&'static str> {
-    let header = include_str!("../include/cobalnis.h");
+    let header = include_str!("../include/cobalnis/numbers.h");
     let at = header.find(first).expect("the enum");
     let names = header[at..].split_once('}').expect("its end").0.split(',');
     let bare = |name: &'static str| {

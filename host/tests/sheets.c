@@ -185,25 +185,25 @@ static void raw_sheet(void)
     uint8_t marks[ROWS];
     uint64_t words[COBALNIS_SHEET_WORDS] = {0}, part[COBALNIS_PART_WORDS] = {0}, bits = 7;
     size_t next = 7;
-    CHECK(cobalnis_open(words, LENT(ROWS), &bits) == COBALNIS_HOUSE_INTERVAL);
-    CHECK(cobalnis_read_settings(CARDS, sizeof CARDS, 0, words, &next) == 0 && next == 34);
-    CHECK(cobalnis_open(words, LENT(ROWS), &bits) == 0);
-    CHECK(cobalnis_read_part(CARDS, sizeof CARDS, next, part, &next) == 0 && next == 43);
-    CHECK(cobalnis_insert(words, 0, part, LENT(ROWS), &bits) == 0);
+    CHECK(cobalnis_open_raw(words, LENT(ROWS), &bits) == COBALNIS_HOUSE_INTERVAL);
+    CHECK(cobalnis_read_settings_raw(CARDS, sizeof CARDS, 0, words, &next) == 0 && next == 34);
+    CHECK(cobalnis_open_raw(words, LENT(ROWS), &bits) == 0);
+    CHECK(cobalnis_read_part_raw(CARDS, sizeof CARDS, next, part, &next) == 0 && next == 43);
+    CHECK(cobalnis_insert_raw(words, 0, part, LENT(ROWS), &bits) == 0);
     CHECK(words[COBALNIS_PARTS_AT] == 1);
-    CHECK(cobalnis_ignite(words, 1, LENT(ROWS), &bits) == 0);
+    CHECK(cobalnis_ignite_raw(words, 1, LENT(ROWS), &bits) == 0);
     CHECK(words[COBALNIS_NOZZLE_AT] == cobalnis_bits(1));
-    CHECK(cobalnis_ignite(words, 101, LENT(ROWS), &bits) == COBALNIS_HOUSE_INTERVAL);
-    CHECK(cobalnis_burnout(words, LENT(ROWS), &bits) == 0);
+    CHECK(cobalnis_ignite_raw(words, 101, LENT(ROWS), &bits) == COBALNIS_HOUSE_INTERVAL);
+    CHECK(cobalnis_burnout_raw(words, LENT(ROWS), &bits) == 0);
     CHECK(words[COBALNIS_NOZZLE_AT] == 0);
-    CHECK(cobalnis_replace(words, 0, part, LENT(ROWS), &bits) == 0);
-    CHECK(cobalnis_set_column(words, 0, 0, 0, LENT(ROWS), &bits) == 0);
-    CHECK(cobalnis_remove(words, 0, LENT(ROWS), &bits) == 0);
+    CHECK(cobalnis_replace_raw(words, 0, part, LENT(ROWS), &bits) == 0);
+    CHECK(cobalnis_set_column_raw(words, 0, 0, 0, LENT(ROWS), &bits) == 0);
+    CHECK(cobalnis_remove_raw(words, 0, LENT(ROWS), &bits) == 0);
     CHECK(words[COBALNIS_PARTS_AT] == 0);
-    CHECK(cobalnis_insert(words, 1, part, LENT(ROWS), &bits) == COBALNIS_NO_PLACE);
-    CHECK(cobalnis_replace(words, 0, part, LENT(ROWS), &bits) == COBALNIS_NO_PLACE);
-    CHECK(cobalnis_remove(words, 0, LENT(ROWS), &bits) == COBALNIS_NO_PLACE);
-    CHECK(cobalnis_set_column(words, 0, NAN, 0, LENT(ROWS), &bits) ==
+    CHECK(cobalnis_insert_raw(words, 1, part, LENT(ROWS), &bits) == COBALNIS_NO_PLACE);
+    CHECK(cobalnis_replace_raw(words, 0, part, LENT(ROWS), &bits) == COBALNIS_NO_PLACE);
+    CHECK(cobalnis_remove_raw(words, 0, LENT(ROWS), &bits) == COBALNIS_NO_PLACE);
+    CHECK(cobalnis_set_column_raw(words, 0, NAN, 0, LENT(ROWS), &bits) ==
           DOMAIN_OF(COBALNIS_MACH));
     CHECK(bits == SHOWN_NAN);
 }

@@ -5,9 +5,10 @@ mod common;
 
 use cobalnis::formulas::skin_friction_coefficient;
 use cobalnis::words::{self, FIRST_PART, PARTS_AT, PART_WORDS};
-use cobalnis::{print, rows, Column, Part, Quantity, Settings, Shape, Sheet, COLUMNS, PLACES};
+use cobalnis::{print, rows, Column, Part, Quantity, Refusal, Settings, Shape, Sheet};
+use cobalnis::{COLUMNS, PLACES};
 
-use common::{domain, refusal, stream, INFINITY, NAN};
+use common::{domain, stream, INFINITY, NAN};
 
 /// The rows of a sheet of one finish.
 const ROWS: usize = rows(1);
@@ -101,15 +102,15 @@ fn edits_refused() {
     }
     let words = *sheet.words();
     let before = sheet.cells().to_vec();
-    assert_eq!(sheet.insert(16, &FACE), Err(refusal(9)));
-    assert_eq!(sheet.insert(17, &FACE), Err(refusal(8)));
-    assert_eq!(sheet.replace(16, &FACE), Err(refusal(8)));
-    assert_eq!(sheet.remove(usize::MAX), Err(refusal(8)));
+    assert_eq!(sheet.insert(16, &FACE), Err(Refusal::ManyParts));
+    assert_eq!(sheet.insert(17, &FACE), Err(Refusal::NoPlace));
+    assert_eq!(sheet.replace(16, &FACE), Err(Refusal::NoPlace));
+    assert_eq!(sheet.remove(usize::MAX), Err(Refusal::NoPlace));
     let long = Part {
         length: 101.0,
         ..FACE
     };
-    assert_eq!(sheet.replace(0, &long), Err(refusal(11)));
+    assert_eq!(sheet.replace(0, &long), Err(Refusal::HouseInterval));
     let angle = Part {
         joint_angle: NAN,
         ..FACE
@@ -121,12 +122,12 @@ fn edits_refused() {
         length: 1.0,
         ..FACE
     };
-    assert_eq!(sheet.replace(0, &ogive), Err(refusal(2)));
+    assert_eq!(sheet.replace(0, &ogive), Err(Refusal::OgiveRatio));
     let column = |mach| Column {
         mach,
         reynolds: 0.0,
     };
-    assert_eq!(sheet.set_column(1, column(0.0)), Err(refusal(8)));
+    assert_eq!(sheet.set_column(1, column(0.0)), Err(Refusal::NoPlace));
     let refused = domain(Quantity::Mach, INFINITY);
     assert_eq!(sheet.set_column(0, column(INFINITY)), Err(refused));
     assert_eq!((sheet.words(), sheet.cells()), (&words, &before[..]));
@@ -205,9 +206,13 @@ fn roughness_of_its_own_refused() {
     let words = *sheet.words();
     let before = sheet.cells().to_vec();
     for bad in [1.5, NAN, -1.0, 1.0f64.next_up(), INFINITY] {
-        assert_eq!(sheet.push(&finished(Some(bad))), Err(refusal(11)), "{bad}");
+        assert_eq!(
+            sheet.push(&finished(Some(bad))),
+            Err(Refusal::HouseInterval),
+            "{bad}"
+        );
         let replaced = sheet.replace(0, &finished(Some(bad)));
-        assert_eq!(replaced, Err(refusal(11)), "{bad}");
+        assert_eq!(replaced, Err(Refusal::HouseInterval), "{bad}");
         assert_eq!((sheet.words(), sheet.cells()), (&words, &before[..]));
     }
 }
@@ -253,7 +258,7 @@ fn opens_refused() {
             &mut vec![0; cell_count],
         )
         .map(|_| ())
-        .map_err(|refusal| refusal.number)
+        .map_err(|refusal| refusal.number())
     };
     assert_eq!(number(&settings(), ROWS), Ok(()));
     assert_eq!(number(&settings(), ROWS - 1), Err(10));
@@ -279,18 +284,18 @@ fn cards() {
     let (read, next) = Settings::read(&bytes, 0).unwrap();
     assert_eq!((read, next), (settings(), 34));
     assert_eq!(Part::read(&bytes, next), Ok((FACE, 43)));
-    assert_eq!(Part::read(&bytes, 43), Err(refusal(4)));
-    assert_eq!(Part::read(&bytes, usize::MAX), Err(refusal(4)));
-    assert_eq!(Part::read(&[0x80], 0), Err(refusal(5)));
-    assert_eq!(Part::read(&[0xc0], 0), Err(refusal(5)));
-    assert_eq!(Part::read(&[0x40], 0), Err(refusal(4)));
-    assert_eq!(Part::read(&[0x01, 0x06], 0), Err(refusal(5)));
-    assert_eq!(Part::read(&[0x01, 0x01], 0), Err(refusal(6)));
-    assert_eq!(Settings::read(&[], 0), Err(refusal(4)));
-    assert_eq!(Settings::read(&[0x01], 0), Err(refusal(6)));
+    assert_eq!(Part::read(&bytes, 43), Err(Refusal::Ended));
+    assert_eq!(Part::read(&bytes, usize::MAX), Err(Refusal::Ended));
+    assert_eq!(Part::read(&[0x80], 0), Err(Refusal::Reserved));
+    assert_eq!(Part::read(&[0xc0], 0), Err(Refusal::Reserved));
+    assert_eq!(Part::read(&[0x40], 0), Err(Refusal::Ended));
+    assert_eq!(Part::read(&[0x01, 0x06], 0), Err(Refusal::Reserved));
+    assert_eq!(Part::read(&[0x01, 0x01], 0), Err(Refusal::Field));
+    assert_eq!(Settings::read(&[], 0), Err(Refusal::Ended));
+    assert_eq!(Settings::read(&[0x01], 0), Err(Refusal::Field));
     let mut many = bytes.clone();
     many[17] = 33;
-    assert_eq!(Settings::read(&many, 0), Err(refusal(7)));
+    assert_eq!(Settings::read(&many, 0), Err(Refusal::ManyColumns));
 }
 
 /// A card's own roughness comes after its wetted ratio, and the next card after it.
@@ -304,7 +309,7 @@ fn cards_with_a_roughness() {
     };
     assert_eq!(Part::read(&bytes, 0), Ok((part(Some(0.25)), 17)));
     assert_eq!(Part::read(&bytes, 17), Ok((part(None), 26)));
-    assert_eq!(Part::read(&bytes[..16], 0), Err(refusal(4)));
+    assert_eq!(Part::read(&bytes[..16], 0), Err(Refusal::Ended));
 }
 
 #[test]

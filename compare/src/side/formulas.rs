@@ -170,15 +170,13 @@ pub fn takes_cone_formula(count: u64, random: &mut Random) -> Row {
             |_, [x], plausible| {
                 let port = words::takes_cone_formula(shape, x);
                 let theirs = mirror::takes_cone_formula(shape, x);
-                // The answer is no status; 1 is yes.
-                let status = if theirs == mirror::NO_SUCH { theirs } else { 0 };
-                row.note(status, port == theirs, || {
-                    written(&[shape, x.to_bits()], &[port.into()], &[theirs.into()])
+                row.note(theirs.0, port == theirs, || {
+                    written(&[shape, x.to_bits()], &[port.1], &[theirs.1])
                 });
                 if shape < 6 {
                     let plain = original_plain::takes_cone_formula(plain::shape_of(shape, x));
                     let plain = f64::from(u8::from(plain));
-                    row.measure(plausible, 0, f64::from(port).to_bits(), Ok(plain));
+                    row.measure(plausible, 0, (port.1 as f64).to_bits(), Ok(plain));
                 }
             },
         );

@@ -2,3 +2,4 @@
 pub mod Tables
 pub mod Turns
 pub mod Back
+pub mod LayoutNumber

@@ -2,7 +2,7 @@
 use denote.Ref.{MutBor}
 use Rattle.std.specs.Prelude.{◌≡◌, Bool, true, false, cond, List, [], ◌∷◌, ℕ, ◌+◌, ◌*◌, length, get_or, drop, eqb, leb, ltb, min, Float, Ok, Err, Option, Some, None}
 use Rattle.aero_error.specs.Checks.{◌then◌, unless, ◌and_then◌, Check, Coefficient}
-use Rattle.nose_drag.specs.Curves.{step_curve, new_curve, Curve}
+use Rattle.nose_drag.specs.Curves.{step_curve, new_curve, takes_cone_formula, Curve}
 use Rattle.nose_drag.specs.Beyond.{Drag, drag_of}
 use Rattle.walk.specs.Answers.{Walked, Answered}
 use Rattle.std.proofs.lemmas.List.Edits.{sets}
@@ -112,6 +112,13 @@ dimension_status what ok = cond (is_code what) (cond ok 0 (1 + 256 * what)) no_s
 
 abbrev pub dimension_bits : ℕ → Bool → Float → ℕ → ℕ
 dimension_bits what ok value before = cond (is_code what) (cond ok 0 (to_bits binary64 value)) before
+
+-- whether a shape takes the cone's formula: the status, and 1 or 0 in the lent word, which stays as it was where the number names no shape
+abbrev pub cone_status : ℕ → ℕ
+cone_status shape = cond (ltb 5 shape) no_such 0
+
+abbrev pub cone_word : ℕ → Float → ℕ → ℕ
+cone_word shape parameter before = cond (ltb 5 shape) before (cond (takes_cone_formula (shape_of shape parameter)) 1 0)
 
 -- ---- the classes of IEEE 754, by their numbers from 0
 

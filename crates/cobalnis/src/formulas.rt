@@ -1,9 +1,7 @@
 // The formulas by their numbers, the test of a dimension by its quantity's code, and whether a shape takes the cone's formula.
-ghost use Rattle.std.specs.Prelude.{◌≡◌, cond, ◌≤◌, ltb};
+ghost use Rattle.std.specs.Prelude.{◌≡◌, ◌≤◌};
 ghost use Rattle.aero_error.specs.Checks.{dimension};
-ghost use Rattle.nose_drag.specs.Curves.{takes_cone_formula};
-ghost use Rattle.shapes.specs.Numbers.{shape_of};
-ghost use Rattle.cobalnis.specs.Answers.{no_such, formula_of, formula_status, formula_bits, dimension_status, dimension_bits};
+ghost use Rattle.cobalnis.specs.Answers.{no_such, formula_of, formula_status, formula_bits, dimension_status, dimension_bits, cone_status, cone_word};
 
 use crate::answers::{NO_SUCH, hand_out, tested};
 use aero_error::{AeroError, Quantity};
@@ -64,11 +62,13 @@ pub fn cobalnis_check_dimension(what: u32, value: f64, allow_zero: bool, bits: &
     )
 }
 
-pub fn cobalnis_takes_cone_formula(shape: u64, parameter: f64) -> u32
-    ensures { result ≡ cond (ltb 5 shape) no_such (cond (takes_cone_formula (shape_of shape parameter)) 1 0) }
+// Whether a shape takes the cone's formula: 1 or 0 in the lent word, which stays as it was where the number names no shape.
+pub fn cobalnis_takes_cone_formula(shape: u64, parameter: f64, takes: &mut u64) -> u32
+    ensures { (result ≡ cone_status shape) × (takes.new ≡ cone_word shape parameter takes.old) }
 {
     if 5 < shape {
         return NO_SUCH;
     }
-    u32::from(nose_drag::takes_cone_formula(NoseShape::of_number(shape, parameter)))
+    *takes = u64::from(nose_drag::takes_cone_formula(NoseShape::of_number(shape, parameter)));
+    0
 }

@@ -12,6 +12,7 @@ mod formulas;
 mod noses;
 mod sheets;
 mod stream;
+mod version;
 mod words;
 
 pub use floats::cobalnis_classify;
@@ -22,6 +23,7 @@ pub use sheets::{
     cobalnis_replace, cobalnis_set_column,
 };
 pub use stream::{cobalnis_print, cobalnis_read_part, cobalnis_read_settings};
+pub use version::{cobalnis_layout, cobalnis_version};
 pub use words::{
     COLUMNS_AT, FINENESS_AT, FINISHES_AT, FIRST_PART, MACHS_AT, NOZZLE_AT, PART_WORDS, PARTS_AT,
     REYNOLDS_AT, ROUGHNESSES_AT, SHEET_WORDS,

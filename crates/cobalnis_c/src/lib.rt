@@ -1,19 +1,32 @@
-// The static library for programs in C and Rust (`libcobalnis.a`, docs/REFERENCE.md): each function of `cobalnis` that C calls,
-// under its own name, by the C calling convention, and with its clauses.
+// The static library for programs in C and Rust (`libcobalnis.a`, docs/REFERENCE.md): each function of `cobalnis` that C calls, by the C
+// calling convention, and with its clauses. A function on words has `_raw` after its name, since the header's typed functions stand beside it.
 #![tactic(auto)]
 
 ghost use Rattle.std.specs.Prelude.{◌≡◌, cond, ltb};
 ghost use Rattle.aero_error.specs.Checks.{dimension};
 ghost use Rattle.cards.specs.Cards.{part_at, settings_at};
-ghost use Rattle.cobalnis.specs.Answers.{ClassShown, no_such, formula_of, formula_status, formula_bits, dimension_status, dimension_bits, is_nose, point_status, point_words, lookup_words, WalkDone, curve_from, lent_words, CurveAnswered, CallDone, OpenShown, sheet_known, part_known, PartCard, SettingsCard};
+ghost use Rattle.cobalnis.specs.Answers.{ClassShown, no_such, formula_of, formula_status, formula_bits, dimension_status, dimension_bits, cone_status, cone_word, is_nose, point_status, point_words, lookup_words, WalkDone, curve_from, lent_words, CurveAnswered, CallDone, OpenShown, sheet_known, part_known, PartCard, SettingsCard};
+ghost use Rattle.cobalnis.specs.Version.{version, layout};
 ghost use Rattle.cobalnis.specs.Words.{part_of};
 ghost use Rattle.drag_sheet.specs.Planes.{lent};
 ghost use Rattle.drag_sheet.specs.Calls.{insert as insert_call, remove as remove_call, replace as replace_call, set_column as column_call, ignite as ignite_call, burnout as burnout_call};
-ghost use Rattle.nose_drag.specs.Curves.{takes_cone_formula};
-ghost use Rattle.shapes.specs.Numbers.{shape_of};
 ghost use Rattle.sheet_text.specs.Text.{Printed};
 
 use cobalnis::{PART_WORDS, SHEET_WORDS};
+
+#[unsafe(no_mangle)]
+pub extern "C" fn cobalnis_version() -> u32
+    ensures { result ≡ version }
+{
+    cobalnis::cobalnis_version()
+}
+
+#[unsafe(no_mangle)]
+pub extern "C" fn cobalnis_layout() -> u32
+    ensures { result ≡ layout }
+{
+    cobalnis::cobalnis_layout()
+}
 
 #[unsafe(no_mangle)]
 pub extern "C" fn cobalnis_classify(bits: u64) -> u32
@@ -23,7 +36,7 @@ pub extern "C" fn cobalnis_classify(bits: u64) -> u32
 }
 
 #[unsafe(no_mangle)]
-pub extern "C" fn cobalnis_formula(
+pub extern "C" fn cobalnis_formula_raw(
     which: u32,
     a: f64,
     b: f64,
@@ -38,7 +51,7 @@ pub extern "C" fn cobalnis_formula(
 }
 
 #[unsafe(no_mangle)]
-pub extern "C" fn cobalnis_check_dimension(
+pub extern "C" fn cobalnis_check_dimension_raw(
     what: u32,
     value: f64,
     allow_zero: bool,
@@ -50,28 +63,32 @@ pub extern "C" fn cobalnis_check_dimension(
 }
 
 #[unsafe(no_mangle)]
-pub extern "C" fn cobalnis_takes_cone_formula(shape: u64, parameter: f64) -> u32
-    ensures { result ≡ cond (ltb 5 shape) no_such (cond (takes_cone_formula (shape_of shape parameter)) 1 0) }
+pub extern "C" fn cobalnis_takes_cone_formula_raw(
+    shape: u64,
+    parameter: f64,
+    takes: &mut u64,
+) -> u32
+    ensures { (result ≡ cone_status shape) × (takes.new ≡ cone_word shape parameter takes.old) }
 {
-    cobalnis::cobalnis_takes_cone_formula(shape, parameter)
+    cobalnis::cobalnis_takes_cone_formula(shape, parameter, takes)
 }
 
 #[unsafe(no_mangle)]
-pub extern "C" fn cobalnis_nose_point(nose: u32, place: usize, out: &mut [u64; 2]) -> u32
+pub extern "C" fn cobalnis_nose_point_raw(nose: u32, place: usize, out: &mut [u64; 2]) -> u32
     ensures { (result ≡ point_status nose place) × (out.new ≡ point_words nose place out.old) }
 {
     cobalnis::cobalnis_nose_point(nose, place, out)
 }
 
 #[unsafe(no_mangle)]
-pub extern "C" fn cobalnis_nose_lookup(nose: u32, mach: f64, out: &mut [u64; 4]) -> u32
+pub extern "C" fn cobalnis_nose_lookup_raw(nose: u32, mach: f64, out: &mut [u64; 4]) -> u32
     ensures { (result ≡ cond (is_nose nose) 0 no_such) × (out.new ≡ lookup_words nose mach out.old) }
 {
     cobalnis::cobalnis_nose_lookup(nose, mach, out)
 }
 
 #[unsafe(no_mangle)]
-pub extern "C" fn cobalnis_nose_walk(
+pub extern "C" fn cobalnis_nose_walk_raw(
     nose: u32,
     machs: &[f64],
     answers: &mut [f64],
@@ -84,7 +101,7 @@ pub extern "C" fn cobalnis_nose_walk(
 }
 
 #[unsafe(no_mangle)]
-pub extern "C" fn cobalnis_curve(
+pub extern "C" fn cobalnis_curve_raw(
     shape: u64,
     parameter: f64,
     fineness_ratio: f64,
@@ -109,7 +126,7 @@ pub extern "C" fn cobalnis_curve(
 }
 
 #[unsafe(no_mangle)]
-pub extern "C" fn cobalnis_open(
+pub extern "C" fn cobalnis_open_raw(
     words: &mut [u64; SHEET_WORDS],
     cells: &mut [f64],
     marks: &mut [u8],
@@ -121,7 +138,7 @@ pub extern "C" fn cobalnis_open(
 }
 
 #[unsafe(no_mangle)]
-pub extern "C" fn cobalnis_insert(
+pub extern "C" fn cobalnis_insert_raw(
     words: &mut [u64; SHEET_WORDS],
     place: usize,
     part: &[u64; PART_WORDS],
@@ -135,7 +152,7 @@ pub extern "C" fn cobalnis_insert(
 }
 
 #[unsafe(no_mangle)]
-pub extern "C" fn cobalnis_replace(
+pub extern "C" fn cobalnis_replace_raw(
     words: &mut [u64; SHEET_WORDS],
     place: usize,
     part: &[u64; PART_WORDS],
@@ -149,7 +166,7 @@ pub extern "C" fn cobalnis_replace(
 }
 
 #[unsafe(no_mangle)]
-pub extern "C" fn cobalnis_remove(
+pub extern "C" fn cobalnis_remove_raw(
     words: &mut [u64; SHEET_WORDS],
     place: usize,
     cells: &mut [f64],
@@ -162,7 +179,7 @@ pub extern "C" fn cobalnis_remove(
 }
 
 #[unsafe(no_mangle)]
-pub extern "C" fn cobalnis_set_column(
+pub extern "C" fn cobalnis_set_column_raw(
     words: &mut [u64; SHEET_WORDS],
     column: usize,
     mach: f64,
@@ -177,7 +194,7 @@ pub extern "C" fn cobalnis_set_column(
 }
 
 #[unsafe(no_mangle)]
-pub extern "C" fn cobalnis_ignite(
+pub extern "C" fn cobalnis_ignite_raw(
     words: &mut [u64; SHEET_WORDS],
     nozzle_diameter: f64,
     cells: &mut [f64],
@@ -190,7 +207,7 @@ pub extern "C" fn cobalnis_ignite(
 }
 
 #[unsafe(no_mangle)]
-pub extern "C" fn cobalnis_burnout(
+pub extern "C" fn cobalnis_burnout_raw(
     words: &mut [u64; SHEET_WORDS],
     cells: &mut [f64],
     marks: &mut [u8],
@@ -202,7 +219,7 @@ pub extern "C" fn cobalnis_burnout(
 }
 
 #[unsafe(no_mangle)]
-pub extern "C" fn cobalnis_read_settings(
+pub extern "C" fn cobalnis_read_settings_raw(
     bytes: &[u8],
     at: usize,
     words: &mut [u64; SHEET_WORDS],
@@ -214,7 +231,7 @@ pub extern "C" fn cobalnis_read_settings(
 }
 
 #[unsafe(no_mangle)]
-pub extern "C" fn cobalnis_read_part(
+pub extern "C" fn cobalnis_read_part_raw(
     bytes: &[u8],
     at: usize,
     words: &mut [u64; PART_WORDS],

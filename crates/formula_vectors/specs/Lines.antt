@@ -1,7 +1,7 @@
 -- When a stored line agrees: it can be read, and its status and words are those that the definitions give at its arguments.
 use Rattle.std.specs.Prelude.{ℕ, Bool, true, false, cond, ◌&&◌, List, [], ◌∷◌, eqb, ltb, get_or, Float, Option, Some, None, Ok, Err}
 use Rattle.aero_error.specs.Checks.{dimension, Check}
-use Rattle.nose_drag.specs.Curves.{takes_cone_formula, Curve}
+use Rattle.nose_drag.specs.Curves.{Curve}
 use Rattle.nose_drag.specs.Beyond.{drag_of}
 use Rattle.std.specs.Float.Ieee.{to_bits}
 use Rattle.std.specs.Float.{binary64}
@@ -9,9 +9,8 @@ use Rattle.elementary.specs.Arithmetic.{bits}
 use Rattle.elementary.specs.Constants.{0·0}
 use Rattle.aero_error.specs.Refusals.{refused_value}
 use Rattle.drag.specs.Friction.{mach_checked}
-use Rattle.shapes.specs.Numbers.{shape_of}
 use Rattle.nose_drag.specs.declared.curve.PressureDragCurve.{PressureDragCurve}
-use Rattle.cobalnis.specs.Answers.{status_of, no_such, formula_of, formula_status, formula_bits, dimension_status, dimension_bits, is_nose, point_status, point_words, lookup_words, curve_from, drag_bits, drag_mark, about}
+use Rattle.cobalnis.specs.Answers.{status_of, no_such, formula_of, formula_status, formula_bits, dimension_status, dimension_bits, cone_status, cone_word, is_nose, point_status, point_words, lookup_words, curve_from, drag_bits, drag_mark, about}
 use Rattle.replay.specs.declared.Counts.{Counts}
 use Rattle.replay.specs.Counts.{counted}
 use Rattle.replay.specs.Words.{word_at, is_line}
@@ -49,8 +48,7 @@ dimension_at line =
     dimension_status what ok ∷ dimension_bits what ok (float_at line 1) 0 ∷ 0 ∷ 0 ∷ 0 ∷ []
 
 unfoldable pub cone_at : List ℕ → List ℕ
-cone_at line =
-    cond (ltb 5 (word_at line 0)) no_such (cond (takes_cone_formula (shape_of (word_at line 0) (float_at line 1))) 1 0) ∷ 0 ∷ 0 ∷ 0 ∷ 0 ∷ []
+cone_at line = cone_status (word_at line 0) ∷ cone_word (word_at line 0) (float_at line 1) 0 ∷ 0 ∷ 0 ∷ 0 ∷ []
 
 unfoldable pub point_at : List ℕ → List ℕ
 point_at line =

@@ -4,7 +4,7 @@
 //
 //     f cobalnis_formula              its number, a, b, c, d, e         status, bits
 //     d cobalnis_check_dimension      code, value, whether zero passes  status, bits
-//     k cobalnis_takes_cone_formula   shape, parameter                  status
+//     k cobalnis_takes_cone_formula   shape, parameter                  status, 1 or 0
 //     p cobalnis_nose_point           nose, place                       status, Mach, drag
 //     l cobalnis_nose_lookup          nose, Mach                        status, value, slope, first Mach
 //     c cobalnis_curve at one Mach    shape, parameter, fineness,       status, coefficient, value refused, value at rest,
@@ -85,8 +85,9 @@ fn dimension(line: &[u8]) -> [u64; 5]
 fn cone(line: &[u8]) -> [u64; 5]
     ensures { result ≡ cone_at line.now }
 {
-    let status = cobalnis_takes_cone_formula(word_at(line, 0), float_at(line, 1));
-    [status as u64, 0, 0, 0, 0]
+    let mut takes = 0u64;
+    let status = cobalnis_takes_cone_formula(word_at(line, 0), float_at(line, 1), &mut takes);
+    [status as u64, takes, 0, 0, 0]
 }
 
 #[tactic(auto, unfolding(crate::specs::Lines::point_at))]

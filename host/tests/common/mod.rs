@@ -6,21 +6,8 @@ pub const NAN: f64 = f64::NAN;
 pub const INFINITY: f64 = f64::INFINITY;
 
 /// Refusal 1 for this quantity and value.
-pub fn domain(what: Quantity, value: f64) -> Refusal {
-    Refusal {
-        number: 1,
-        code: what.code(),
-        value,
-    }
-}
-
-/// A refusal of a number alone.
-pub fn refusal(number: u8) -> Refusal {
-    Refusal {
-        number,
-        code: 0,
-        value: 0.0,
-    }
+pub fn domain(quantity: Quantity, value: f64) -> Refusal {
+    Refusal::Domain { quantity, value }
 }
 
 /// The bytes of docs/REFERENCE.md, Example.

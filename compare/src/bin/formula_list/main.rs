@@ -53,8 +53,8 @@ impl Answers {
     }
 
     pub fn takes_cone_formula(&mut self, shape: u64, parameter: f64) {
-        let status = mirror::takes_cone_formula(shape, parameter);
-        self.line('k', &[shape, parameter.to_bits()], status, &[]);
+        let (status, takes) = mirror::takes_cone_formula(shape, parameter);
+        self.line('k', &[shape, parameter.to_bits()], status, &[takes]);
     }
 
     pub fn nose_point(&mut self, nose: usize, place: usize) {

@@ -51,7 +51,8 @@ pub fn ignites_and_burnouts() {
     let random = &mut Random::new(SEED);
     let full = sheet(random, PLACES, false);
     let nozzles: Vec<_> = (0..128).map(|_| random.between(0.01, 0.15)).collect();
-    let (port, original) = black_box((raw::cobalnis_ignite as Ignite, theirs::ignite as Ignite));
+    let (port, original) =
+        black_box((raw::cobalnis_ignite_raw as Ignite, theirs::ignite as Ignite));
     let times = measure(
         nozzles.len(),
         &mut || ignite_pass(port, &full, &nozzles),
@@ -59,8 +60,10 @@ pub fn ignites_and_burnouts() {
     );
     row("ignite in a full sheet", times);
     let sheets: Vec<_> = nozzles[..32].iter().map(|&n| burning(&full, n)).collect();
-    let (port, original) =
-        black_box((raw::cobalnis_burnout as Burnout, theirs::burnout as Burnout));
+    let (port, original) = black_box((
+        raw::cobalnis_burnout_raw as Burnout,
+        theirs::burnout as Burnout,
+    ));
     let times = measure(
         sheets.len(),
         &mut || burnout_pass(port, &sheets),

@@ -83,7 +83,7 @@ fn settings_cards(random: &mut Random, count: usize, columns: usize) -> Vec<u8> 
 pub fn cards(random: &mut Random) {
     let bytes = part_cards(random, INPUTS);
     let (port, original) = black_box((
-        raw::cobalnis_read_part as ReadPart,
+        raw::cobalnis_read_part_raw as ReadPart,
         theirs::read_part as ReadPart,
     ));
     let times = measure(INPUTS, &mut || part_pass(port, &bytes), &mut || {
@@ -91,7 +91,7 @@ pub fn cards(random: &mut Random) {
     });
     row("decoding a part card", times);
     let (port, original) = black_box((
-        raw::cobalnis_read_settings as ReadSettings,
+        raw::cobalnis_read_settings_raw as ReadSettings,
         theirs::read_settings as ReadSettings,
     ));
     for columns in [1, 8, 32] {

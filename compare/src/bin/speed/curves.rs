@@ -81,7 +81,7 @@ fn curve_pass(f: Curve, shape: u64, curves: &[[f64; 3]], machs: &[f64], out: &mu
 }
 
 pub fn curves(random: &mut Random) {
-    let (port, original) = black_box((raw::cobalnis_curve as Curve, theirs::curve as Curve));
+    let (port, original) = black_box((raw::cobalnis_curve_raw as Curve, theirs::curve as Curve));
     let time = |shape: u64, curves: &[[f64; 3]], machs: &[f64]| {
         let mut out = Out {
             bits: vec![0; machs.len()],

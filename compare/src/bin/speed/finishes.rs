@@ -40,7 +40,7 @@ fn rows_of(call: &str, four: Times, one: Times) {
 type Sheets = [(SheetWords, PartWords)];
 
 fn builds(one: &Sheets, four: &Sheets) {
-    let (port, original) = black_box((raw::cobalnis_insert as Edit, theirs::insert as Edit));
+    let (port, original) = black_box((raw::cobalnis_insert_raw as Edit, theirs::insert as Edit));
     let with_one = measure(
         one.len(),
         &mut || build_pass::<CELLS>(port, one),
@@ -55,7 +55,7 @@ fn builds(one: &Sheets, four: &Sheets) {
 }
 
 fn replaces(one: &SheetWords, four: &SheetWords, parts: &[(usize, PartWords)]) {
-    let (port, original) = black_box((raw::cobalnis_replace as Edit, theirs::replace as Edit));
+    let (port, original) = black_box((raw::cobalnis_replace_raw as Edit, theirs::replace as Edit));
     let with_one = measure(
         parts.len(),
         &mut || replace_pass::<CELLS>(port, one, parts),
@@ -71,7 +71,7 @@ fn replaces(one: &SheetWords, four: &SheetWords, parts: &[(usize, PartWords)]) {
 
 fn set_columns(one: &SheetWords, four: &SheetWords, columns: &[(usize, f64, f64)]) {
     let (port, original) = black_box((
-        raw::cobalnis_set_column as SetColumn,
+        raw::cobalnis_set_column_raw as SetColumn,
         theirs::set_column as SetColumn,
     ));
     let with_one = measure(

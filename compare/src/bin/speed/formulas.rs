@@ -69,7 +69,7 @@ fn formula_pass(f: Numbered, which: u32, inputs: &[[f64; 5]]) -> u64 {
 
 pub fn formulas(random: &mut Random) {
     let (port, original) = black_box((
-        raw::cobalnis_formula as Numbered,
+        raw::cobalnis_formula_raw as Numbered,
         theirs::formula as Numbered,
     ));
     for formula in builds::formulas() {

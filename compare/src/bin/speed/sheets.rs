@@ -80,7 +80,10 @@ pub fn fifteen(random: &mut Random, widens: bool) -> Vec<(SheetWords, PartWords)
 /// Opening a sheet and inserting 16 parts, one call after the other.
 pub fn rebuilds(random: &mut Random) -> Times {
     let sheets: Vec<_> = (0..32).map(|_| sheet(random, PLACES, false)).collect();
-    let (open, insert) = black_box((raw::cobalnis_open as Open, raw::cobalnis_insert as Edit));
+    let (open, insert) = black_box((
+        raw::cobalnis_open_raw as Open,
+        raw::cobalnis_insert_raw as Edit,
+    ));
     let (their_open, their_insert) = black_box((theirs::open as Open, theirs::insert as Edit));
     let times = measure(
         sheets.len(),
@@ -96,7 +99,7 @@ const OWN_SEED: u64 = 0x5eed_000d;
 
 /// A build of each of these sheets.
 fn time_builds(sheets: &[(SheetWords, PartWords)]) -> Times {
-    let (port, original) = black_box((raw::cobalnis_insert as Edit, theirs::insert as Edit));
+    let (port, original) = black_box((raw::cobalnis_insert_raw as Edit, theirs::insert as Edit));
     measure(
         sheets.len(),
         &mut || build_pass::<CELLS>(port, sheets),
@@ -161,7 +164,7 @@ fn against_without(call: &str, own: Times, without: Times) {
 
 /// Each of these parts put at its place in a full sheet.
 fn time_replaces(full: &SheetWords, parts: &[(usize, PartWords)]) -> Times {
-    let (port, original) = black_box((raw::cobalnis_replace as Edit, theirs::replace as Edit));
+    let (port, original) = black_box((raw::cobalnis_replace_raw as Edit, theirs::replace as Edit));
     measure(
         parts.len(),
         &mut || replace_pass::<CELLS>(port, full, parts),
@@ -223,7 +226,7 @@ pub fn set_columns(random: &mut Random) {
         })
         .collect();
     let (port, original) = black_box((
-        raw::cobalnis_set_column as SetColumn,
+        raw::cobalnis_set_column_raw as SetColumn,
         theirs::set_column as SetColumn,
     ));
     let times = measure(
@@ -236,7 +239,8 @@ pub fn set_columns(random: &mut Random) {
 
 pub fn removes(random: &mut Random) {
     let sheets = fifteen(random, false);
-    let (port, original) = black_box((raw::cobalnis_remove as Remove, theirs::remove as Remove));
+    let (port, original) =
+        black_box((raw::cobalnis_remove_raw as Remove, theirs::remove as Remove));
     let times = measure(
         sheets.len(),
         &mut || remove_pass(port, &sheets),

@@ -62,14 +62,17 @@ pub fn walks(random: &mut Random) {
     let flights = flights(random);
     let calls = flights.len() * QUERIES;
     let (port, original) = black_box((
-        raw::cobalnis_nose_lookup as Lookup,
+        raw::cobalnis_nose_lookup_raw as Lookup,
         theirs::nose_lookup as Lookup,
     ));
     let lookup = measure(calls, &mut || lookup_pass(port, &flights), &mut || {
         lookup_pass(original, &flights)
     });
     row("a table's single lookup, rising Machs", lookup);
-    let (port, original) = black_box((raw::cobalnis_nose_walk as Walk, theirs::nose_walk as Walk));
+    let (port, original) = black_box((
+        raw::cobalnis_nose_walk_raw as Walk,
+        theirs::nose_walk as Walk,
+    ));
     let walk = measure(calls, &mut || walk_pass(port, &flights), &mut || {
         walk_pass(original, &flights)
     });
