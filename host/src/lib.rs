@@ -8,9 +8,9 @@
 //! **Threads.** The library keeps nothing between calls: its functions may be called on any number
 //! of threads at once, and a [`Sheet`], which holds what it was lent, is `Send` and `Sync`.
 //!
-//! **Platforms.** The archive is for Linux on x86-64, version 2 of it and later. It reckons in the processor's default mode:
-//! rounding to nearest, subnormals kept. A program that changes the mode, or has a part linked with
-//! C's `-ffast-math`, which makes subnormals 0 at its start, gets other numbers.
+//! **Platforms.** The archive is for Linux on x86-64, version 2 of it and later. It reckons in the
+//! processor's default mode: rounding to nearest, subnormals kept. A program that changes the mode,
+//! or is linked with C's `-ffast-math`, which makes subnormals 0 at its start, gets other numbers.
 //!
 //! **Aliasing.** What C asks of its pointers, Rust's references already say, so nothing is asked of
 //! you.
