@@ -3,7 +3,7 @@
 // `requires`; what a caller owes is valid memory alone.
 //
 // An answer is a status: 0 is accepted, else the refusal's number plus 256 times the code of refusal 1; `NO_SUCH` is for a number that names
-// nothing. `cobalnis_classify` answers a class's number, `cobalnis_print` how many bytes it wrote. A float is handed out by its bits, 7ff8000000000000 for every NaN. `words` has a part and a sheet as words.
+// nothing. `cobalnis_classify` answers a class's number, `cobalnis_print` how many bytes it wrote, `cobalnis_version` and `cobalnis_layout` which library this is. A float is handed out by its bits, 7ff8000000000000 for every NaN. `words` has a part and a sheet as words.
 #![tactic(auto)]
 
 mod answers;
