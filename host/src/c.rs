@@ -82,14 +82,21 @@ pub fn fits_archive() -> bool {
 fn fits() {
     static ASKED: AtomicBool = AtomicBool::new(false);
     if !ASKED.load(Ordering::Relaxed) {
-        let (version, layout) = archive();
-        assert!(
-            fits_archive(),
-            "libcobalnis.a has version {version} and layout {layout}, and this package is for \
-             {VERSION} and {LAYOUT}: make both from one state of the repository"
-        );
+        look();
         ASKED.store(true, Ordering::Relaxed);
     }
+}
+
+/// Kept apart, so that a call after the first costs the test of a flag.
+#[cold]
+#[inline(never)]
+fn look() {
+    let (version, layout) = archive();
+    assert!(
+        fits_archive(),
+        "libcobalnis.a has version {version} and layout {layout}, and this package is for \
+         {VERSION} and {LAYOUT}: make both from one state of the repository"
+    );
 }
 
 /// A status, and the bits of the value or of the value refused.

@@ -50,9 +50,19 @@ pub enum Refusal {
 
 impl Refusal {
     /// A status and the bits of a value as a refusal, or nothing where the status is 0.
+    #[inline]
     pub(crate) fn of(status: u32, bits: u64) -> Result<(), Self> {
-        Err(match status as u8 {
-            0 => return Ok(()),
+        if status == 0 {
+            return Ok(());
+        }
+        Err(Self::refused(status, bits))
+    }
+
+    /// The refusal of a status that isn't 0; kept apart, so that an accepted call tests no more.
+    #[cold]
+    #[inline(never)]
+    fn refused(status: u32, bits: u64) -> Self {
+        match status as u8 {
             1 => Self::Domain {
                 quantity: Quantity::of(status >> 8),
                 value: f64::from_bits(bits),
@@ -70,7 +80,7 @@ impl Refusal {
             16 => Self::FallingMach,
             19 => Self::FinishCount,
             number => unreachable!("an archive of this layout has no refusal {number}"),
-        })
+        }
     }
 
     /// Its number (docs/REFERENCE.md, Refusals).
