@@ -32,6 +32,8 @@ ADVICE = {
 }
 OTHER_ADVICE = "No text leads to this: write the card again with card.py write, and run sheet on it."
 
+DIAMETERS = 0.001, 100  # of reference that refusal 11 lets pass
+
 WIDE, HIGH = 190, 277  # A4 within its margins, in mm
 POINT = 0.3528  # mm
 LINE, DIGIT = 1.14, 0.58  # a line's height and a digit's width over their letters' size
@@ -151,8 +153,9 @@ def line_of(rocket, refused):
     if refused.number == 1 and 0 < rocket.settings["fineness"][0] < math.inf:
         sound = (0 <= column.mach < math.inf and 0 <= column.reynolds < math.inf for column in columns)
         return next((column.line for column, good in zip(columns, sound) if not good), 0)
-    wide = not 0.001 <= rocket.settings["diameter"][0] <= 100
-    key = {1: "fineness", 11: "diameter" if wide else "roughness", 19: "roughness"}.get(refused.number)
+    narrowest, widest = DIAMETERS
+    size = "roughness" if narrowest <= rocket.settings["diameter"][0] <= widest else "diameter"
+    key = {1: "fineness", 11: size, 19: "roughness"}.get(refused.number)
     return rocket.lines.get(key, 0)
 
 

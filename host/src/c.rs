@@ -1,4 +1,4 @@
-//! The C interface as include/cobalnis.h has it, and a safe function over each of its functions.
+//! The C interface as include/cobalnis/raw.h has it, and a safe function over each of its functions.
 //! All of this crate's `unsafe` is here; c/raw.rs has the declarations.
 //!
 //! What the C side asks of its pointers, Rust's references already say: they are aligned and never

@@ -3,7 +3,7 @@
 use crate::c;
 
 /// The class of an `f64`, by the exponent field and the significand field of its bits. Its number in
-/// the C interface is its place here; include/cobalnis.h lists them in the same order, which
+/// the C interface is its place here; include/cobalnis/numbers.h lists them in the same order, which
 /// tests/numbers.rs holds them to.
 #[derive(Debug, Clone, Copy, PartialEq, Eq)]
 pub enum FloatClass {

@@ -5,8 +5,8 @@ use crate::{c, Refusal};
 
 macro_rules! numbered {
     ($($formula:ident $name:literal),* $(,)?) => {
-        /// A formula. Its number in the C interface is its place here; include/cobalnis.h lists
-        /// them in the same order, which tests/numbers.rs holds them to.
+        /// A formula. Its number in the C interface is its place here; include/cobalnis/numbers.h
+        /// lists them in the same order, which tests/numbers.rs holds them to.
         #[derive(Debug, Clone, Copy, PartialEq, Eq)]
         pub enum Formula {
             $(#[doc = concat!("`", $name, "`.")] $formula),*

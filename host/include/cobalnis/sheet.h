@@ -145,6 +145,17 @@ static inline size_t cobalnis_sheet_cells(const cobalnis_sheet *sheet)
     return cobalnis_sheet_rows(sheet) * (size_t)sheet->columns;
 }
 
+/* Where the base row and a finish's total row stand. */
+static inline size_t cobalnis_detail_base_row(const cobalnis_sheet *sheet)
+{
+    return COBALNIS_PLACES + (size_t)sheet->finishes;
+}
+
+static inline size_t cobalnis_detail_total_row(const cobalnis_sheet *sheet, size_t finish)
+{
+    return cobalnis_detail_base_row(sheet) + 1 + finish;
+}
+
 /* The cells of a row by its number. */
 static inline const double *cobalnis_sheet_row(const cobalnis_sheet *sheet, size_t row,
                                                const double *cells)
@@ -169,14 +180,14 @@ static inline const double *cobalnis_sheet_friction(const cobalnis_sheet *sheet,
 /* Drag of the blunt end, less what the nozzle fills of it. */
 static inline const double *cobalnis_sheet_base(const cobalnis_sheet *sheet, const double *cells)
 {
-    return cobalnis_sheet_row(sheet, COBALNIS_PLACES + (size_t)sheet->finishes, cells);
+    return cobalnis_sheet_row(sheet, cobalnis_detail_base_row(sheet), cells);
 }
 
 /* All part rows, a finish's friction, and the base. */
 static inline const double *cobalnis_sheet_total(const cobalnis_sheet *sheet, size_t finish,
                                                  const double *cells)
 {
-    return cobalnis_sheet_row(sheet, COBALNIS_PLACES + (size_t)sheet->finishes + 1 + finish, cells);
+    return cobalnis_sheet_row(sheet, cobalnis_detail_total_row(sheet, finish), cells);
 }
 
 /* The marks of a row by its number, and of the rows that have any: a part's,
@@ -196,8 +207,7 @@ static inline const uint8_t *cobalnis_sheet_part_marks(const cobalnis_sheet *she
 static inline const uint8_t *cobalnis_sheet_total_marks(const cobalnis_sheet *sheet, size_t finish,
                                                         const uint8_t *marks)
 {
-    const size_t total = COBALNIS_PLACES + (size_t)sheet->finishes + 1;
-    return cobalnis_sheet_row_marks(sheet, total + finish, marks);
+    return cobalnis_sheet_row_marks(sheet, cobalnis_detail_total_row(sheet, finish), marks);
 }
 
 /* ---- cards */

@@ -6,8 +6,8 @@
 //! A line is 189 bytes: a tag and eleven words. The tag says which function of the port's interface
 //! is called, the first six words are its arguments, and the other five its status and the words that
 //! it writes; zeros stand where there are fewer. The tags and their words are listed at the top of
-//! crates/formula_vectors/src/main.rt, the numbers in host/include/cobalnis.h. A NaN answer is
-//! 7ff8000000000000; a NaN argument keeps its sign and payload.
+//! crates/formula_vectors/src/main.rt, the numbers in host/include/cobalnis/numbers.h. A NaN
+//! answer is 7ff8000000000000; a NaN argument keeps its sign and payload.
 //!
 //! A nose's number of points is stored as the place past its last point, which is refused.
 
