@@ -45,6 +45,7 @@ fn parameter_right(present: bool, number: u8) -> bool
 
 impl Reader<'_> {
     // The shape byte, then the parameter, judged and read.
+    #[inline(always)]
     #[tactic(auto, unfolding(crate::specs::Cards::shape_at, crate::specs::Cards::parameter_at))]
     fn shape(&mut self, map: u8) -> Result<NoseShape, AeroError>
         ensures { Took (shape_at map) self.old result self.new }
@@ -58,6 +59,7 @@ impl Reader<'_> {
     }
 
     // The roughness of a part; the settings' one where it is not present.
+    #[inline(always)]
     fn roughness(&mut self, present: bool) -> Result<Option<f64>, AeroError>
         ensures { Took (roughness_at present) self.old result self.new }
     {
@@ -69,6 +71,7 @@ impl Reader<'_> {
     }
 
     // A part card whose bit map is read.
+    #[inline(always)]
     #[tactic(auto, unfolding(crate::specs::Cards::part_fields))]
     fn part(&mut self, map: u8) -> Result<Part, AeroError>
         ensures { Took (part_fields map) self.old result self.new }
@@ -159,6 +162,7 @@ impl Reader<'_> {
 }
 
 // A part card, and the position after it. A function that takes the reading of the card as a closure would serve both cards and be no shorter.
+#[inline(always)]
 #[tactic(auto, unfolding(crate::specs::Cards::part_at))]
 pub fn read_part(s: &[u8], at: usize) -> Result<(Part, usize), AeroError>
     ensures { result ≡ part_at s.now at }

@@ -97,6 +97,7 @@ fn curve_of(
 }
 
 // The bits of a coefficient, or of the value refused, and its mark.
+#[inline(always)]
 #[tactic(auto, using(drag_sheet::proofs::MadeCells::byte_of))]
 fn coefficient_at(curve: PressureDragCurve, mach: f64) -> (u64, u8)
     ensures { (result.0 ≡ drag_bits (drag_of curve mach)) × (result.1 ≡ drag_mark (drag_of curve mach)) }

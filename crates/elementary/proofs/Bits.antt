@@ -27,7 +27,7 @@ shift t = count_leading_zeros 64 t - 11
 
 -- ---- how many digits n has
 
-size_is : (n j : ℕ) → 2 ^ j ≤ n → n < 2 ^ suc j → size n ≡ suc j
+pub size_is : (n j : ℕ) → 2 ^ j ≤ n → n < 2 ^ suc j → size n ≡ suc j
 size_is n j a b = le_antisymm (size-le n (suc j) b) (lt_of_not-le (λ (g : size n ≤ j). not-le_of_lt (lt_of_lt_of_le (size-lt n) (pow_mono g)) a))
 
 leading_size : (t : ℕ) → 0 < t → t < 2 ^ 64 → count_leading_zeros 64 t + size t ≡ 64

@@ -19,3 +19,5 @@ pub mod RootBound
 pub mod Floor
 pub mod Rounding
 pub mod Series
+pub mod RootOperation
+pub mod RootScaled

@@ -35,7 +35,7 @@ pub record Near (s r : ℕ) : Type 0 where
   pub below : s ≤ r * r + r
   pub above : r * r < s + r
 
-square_suc : (r : ℕ) → (r + 1) * (r + 1) ≡ r * r + 2 * r + 1
+pub square_suc : (r : ℕ) → (r + 1) * (r + 1) ≡ r * r + 2 * r + 1
 square_suc r =
     let a : (r + 1) * (r + 1) ≡ r * (r + 1) + 1 * (r + 1) = add-mul r 1 (r + 1) in
     let b : r * (r + 1) ≡ r * r + r * 1 = mul-add r r 1 in
@@ -48,7 +48,7 @@ near_down : (s r left : ℕ) → 0 < s → left + r * r ≡ s → left ≤ r →
 near_down s r left p e l =
     record { below = omega arith; above = elim (eq-zero-or-pos r) [ inl z ↦ (let q : r * r ≡ 0 = ap (λ (k : ℕ). k * r) z ∙ zero-mul r in omega arith) | inr q ↦ omega arith ] }
 
-near : (k s : ℕ) → 0 < s → s < 4 ^ k → Near s (nearest_root k s)
+pub near : (k s : ℕ) → 0 < s → s < 4 ^ k → Near s (nearest_root k s)
 near k s p h = go (rooted k s h)
   where
     go : (left : ℕ) × Rooted k s (root_of k s) left → Near s (nearest_root k s)
@@ -77,20 +77,6 @@ near_is k s r p h n =
     let a = not_over s r (nearest_root k s) n m in
     let b = not_over s (nearest_root k s) r m n in
     omega arith
-
--- r, or one of the two after it, by what s has above r × r
-module _ (s r left : ℕ) (p : 0 < r) (e : left + r * r ≡ s) where
-  pub near_first : left ≤ r → Near s r
-  near_first l = record { below = omega arith; above = omega arith }
-
-  pub near_second : r < left → left ≤ 3 * r + 2 → Near s (r + 1)
-  near_second a b = let q = square_suc r in record { below = omega arith; above = omega arith }
-
-  pub near_third : 3 * r + 2 < left → left ≤ 5 * r + 6 → Near s (r + 2)
-  near_third a b =
-      let q : (r + 2) * (r + 2) ≡ r * (r + 2) + 2 * (r + 2) = add-mul r 2 (r + 2) in
-      let t : r * (r + 2) ≡ r * r + r * 2 = mul-add r r 2 in
-      record { below = omega arith; above = omega arith }
 
 -- between a² and b² - b the root is from a up, and below b
 at_least : (s r a : ℕ) → Near s r → a * a ≤ s → a ≤ r
@@ -261,38 +247,41 @@ module _ (m : ℕ) (e : ℤ) (h : T (fits binary64 (fin false (suc m) e))) where
   abbrev j : ℕ
   j = (size n - 1) / 2
 
-  t : Taken g (size n)
-  t = let u = in_units m e (held false m e h) in taken_units n u.some u.few
+  pub taken : Taken g (size n)
+  taken = let u = in_units m e (held false m e h) in taken_units n u.some u.few
 
-  w_range : (2 ^ 52 ≤ w) × (w + 2 ≤ 2 ^ 54)
-  w_range = doubled (eqb (size n % 2) 1) g t.full t.narrow
+  pub w_range : (2 ^ 52 ≤ w) × (w + 2 ≤ 2 ^ 54)
+  w_range = doubled (eqb (size n % 2) 1) g taken.full taken.narrow
 
   r_near : Near (w * 2 ^ 52) (nearest_root 53 (w * 2 ^ 52))
   r_near = near 53 (w * 2 ^ 52) (omega (arith, w_range)) (omega (arith, w_range))
 
   -- x in units, times 2 ^ 1074
-  square : n * 2 ^ 1074 ≡ w * 2 ^ 52 * (2 ^ (j + 485) * 2 ^ (j + 485))
+  pub square : n * 2 ^ 1074 ≡ w * 2 ^ 52 * (2 ^ (j + 485) * 2 ^ (j + 485))
   square =
       sym (mul_assoc n (2 ^ 53) (2 ^ 1021))
       ∙ ap (λ (a : ℕ). a * 2 ^ 1021) (sym (normal_exact m e (held false m e h)))
-      ∙ sym (square_of g (size n) t.some)
+      ∙ sym (square_of g (size n) taken.some)
 
   abbrev r : ℕ
   r = nearest_root 53 (w * 2 ^ 52)
 
-  r_full : 2 ^ 52 ≤ r
+  pub r_full : 2 ^ 52 ≤ r
   r_full = at_least (w * 2 ^ 52) r (2 ^ 52) r_near (omega (arith, w_range))
 
   r_narrow : r < 2 ^ 53
   r_narrow = less (w * 2 ^ 52) r (2 ^ 53) r_near (lit< tt) (omega (arith, w_range))
 
-  y_value : HasValue (whole r ⊗ two^ (minus j 589)) false (r * 2 ^ j) (1 * 2 ^ 589)
-  y_value = root_value r j (omega (arith, r_full)) r_narrow (omega (arith, t.few))
+  pub y_fits : T (fits binary64 (whole r ⊗ two^ (minus j 589)))
+  y_fits = mul-fits binary64 (whole r) (two^ (minus j 589))
 
-  y_above : T (positive (whole r ⊗ two^ (minus j 589)))
+  y_value : HasValue (whole r ⊗ two^ (minus j 589)) false (r * 2 ^ j) (1 * 2 ^ 589)
+  y_value = root_value r j (omega (arith, r_full)) r_narrow (omega (arith, taken.few))
+
+  pub y_above : T (positive (whole r ⊗ two^ (minus j 589)))
   y_above = positive_of_value (whole r ⊗ two^ (minus j 589)) (r * 2 ^ j) (1 * 2 ^ 589) y_value (mul-pos (omega (arith, r_full)) (pow_pos j))
 
-  y_units : units_of (whole r ⊗ two^ (minus j 589)) ≡ r * 2 ^ (j + 485)
+  pub y_units : units_of (whole r ⊗ two^ (minus j 589)) ≡ r * 2 ^ (j + 485)
   y_units = units_of_value (whole r ⊗ two^ (minus j 589)) r j y_above y_value
 
   low : 2 ^ 52 * 2 ^ 52 ≤ w * 2 ^ 52
@@ -300,7 +289,7 @@ module _ (m : ℕ) (e : ℤ) (h : T (fits binary64 (fin false (suc m) e))) where
 
   nearest : NearestRoot (fin false (suc m) e) (whole r ⊗ two^ (minus j 589))
   nearest = record {
-    held = mul-fits binary64 (whole r) (two^ (minus j 589));
+    held = y_fits;
     above = y_above;
     over = λ a b f l. (let z = units_of_lem a b f in
         rw (y_units, square, z.3) (over_units (w * 2 ^ 52) r (j + 485) r_near r_full low z.0 z.1 z.2 (rw (y_units, z.3) at l)));

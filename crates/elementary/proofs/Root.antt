@@ -2,7 +2,7 @@
 use mathlib.Core.Path.{◌≡◌, refl, sym, ap, ◌∙◌, subst, subst₂}
 use mathlib.Core.Bool.{cond}
 use Prim.Native.Nat.{ℕ, zero, suc, ◌+◌, ◌-◌, ◌*◌, ◌/◌, ◌%◌, ◌^◌, ◌≤◌, ◌<◌}
-use native.Mathlib.Nat.{pow-suc, mul-add, add-mul, mul_comm, mul_right_comm, mul-mul-mul_comm, mul-le-mul, div-add-mod', div-lt_iff_lt-mul, zero-lt-suc}
+use native.Mathlib.Nat.{pow-suc, mul-add, add-mul, mul-mul-mul_comm, div-lt_iff_lt-mul, zero-lt-suc}
 use lib.Arith.{lt-one}
 use native.Mathlib.Decide.{dec_lt}
 use native.Mathlib.Omega.{arith}
@@ -99,32 +99,3 @@ nearest_short w h =
       | yes l ↦ rw (← nearest_up 53 (w * 2 ^ 52) _ _ r l) (omega (arith, r.short))
       | no l ↦ rw (← nearest_down 53 (w * 2 ^ 52) _ _ r (omega arith)) (omega (arith, r.short))
     ]
-
--- ---- the guess's square, by the two halves of the guess
-
--- the products of the halves, and the square that they make
-pub record Halves (root a b : ℕ) : Type 0 where
-  pub high : a * a ≤ 2 ^ 52
-  pub mixed : a * b ≤ 2 ^ 53
-  pub low : b * b ≤ 2 ^ 54
-  pub square : root * root ≡ a * a * 2 ^ 54 + a * b * 2 ^ 28 + b * b
-
-halves_square : (a b p : ℕ) → (a * p + b) * (a * p + b) ≡ a * a * (p * p) + 2 * (a * b * p) + b * b
-halves_square a b p =
-    let e : (a * p + b) * (a * p + b) ≡ a * p * (a * p + b) + b * (a * p + b) = add-mul (a * p) b (a * p + b) in
-    let f : a * p * (a * p + b) ≡ a * p * (a * p) + a * p * b = mul-add (a * p) (a * p) b in
-    let g : b * (a * p + b) ≡ b * (a * p) + b * b = mul-add b (a * p) b in
-    let h : a * p * (a * p) ≡ a * a * (p * p) = mul-mul-mul_comm a p a p in
-    let i : a * p * b ≡ a * b * p = mul_right_comm a p b in
-    let j : b * (a * p) ≡ a * p * b = mul_comm b (a * p) in
-    omega arith
-
-pub halves : (root : ℕ) → root < 2 ^ 53 → Halves root (root / 2 ^ 27) (root % 2 ^ 27)
-halves root h =
-    let a = root / 2 ^ 27 in
-    let b = root % 2 ^ 27 in
-    let m : a ≤ 2 ^ 26 = omega arith in
-    let n : b ≤ 2 ^ 27 = omega arith in
-    let s : root * root ≡ a * a * (2 ^ 27 * 2 ^ 27) + 2 * (a * b * 2 ^ 27) + b * b =
-    ap (λ (k : ℕ). k * k) (sym (div-add-mod' root (2 ^ 27))) ∙ halves_square a b (2 ^ 27) in
-    record { high = mul-le-mul m m; mixed = mul-le-mul m n; low = mul-le-mul n n; square = omega arith }

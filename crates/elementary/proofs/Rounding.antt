@@ -120,7 +120,7 @@ half w r b Ordering.gt R le gt eq =
     let z : suc w * b ≡ w * b + b = omega arith in
     record { up = omega arith; down = omega arith }
 
-closest_half : (a b : ℕ) → 0 < b → Apart b (2 * (closest a b * b)) (2 * a)
+pub closest_half : (a b : ℕ) → 0 < b → Apart b (2 * (closest a b * b)) (2 * a)
 closest_half a b B =
     subst (λ (x : ℕ). Apart b (2 * (closest a b * b)) (2 * x)) (div-add-mod' a b)
     (half (a / b) (a % b) b (compare (a % b * 2) b) (mod-lt a B) (leb→le (a % b * 2) b) (nleb→lt (a % b * 2) b) (eqb→eq (a % b * 2) b))

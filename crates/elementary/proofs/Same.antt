@@ -17,6 +17,7 @@ use borrow.Author.Tests.{le-ltb, ne_eqb}
 use Rattle.elementary.specs.Arithmetic.{◌⊕◌, ◌⊖◌, ◌⊗◌, ◌≼◌}
 use Rattle.elementary.specs.Constants.{0·0}
 use Rattle.elementary.specs.Split as split
+use Rattle.elementary.specs.Nearest.{units_of}
 use Rattle.elementary.proofs.Bits.{held, in_units, bits_of, to_bits_lem}
 
 -- ---- one sign and one size
@@ -27,6 +28,16 @@ same_units s m e n d p q h =
     sym (of_bits-to_bits binary64 (fin s m e) p)
     ∙ ap (of_bits binary64) (to_bits_lem s m e ∙ ap (bits_of s) h ∙ sym (to_bits_lem s n d))
     ∙ of_bits-to_bits binary64 (fin s n d) q
+
+-- two numbers above zero of one size
+pub same_positive : (x y : Float) → T (positive x) → T (positive y) → T (fits binary64 x) → T (fits binary64 y) → units_of x ≡ units_of y → x ≡ y
+same_positive nan y a b p q h = absurd a
+same_positive (inf s) y a b p q h = absurd a
+same_positive (fin true m e) y a b p q h = absurd a
+same_positive (fin false m e) nan a b p q h = absurd b
+same_positive (fin false m e) (inf s) a b p q h = absurd b
+same_positive (fin false m e) (fin true n d) a b p q h = absurd b
+same_positive (fin false m e) (fin false n d) a b p q h = same_units false m e n d p q h
 
 -- y is m × 2 ^ e, in any other form
 pub same_value : (s : Bool) (y : Float) (m : ℕ) (e : ℤ) → T (fits binary64 y) → T (fits binary64 (fin s m e)) → HasValue y s (m * up e) (down e) → y ≡ fin s m e

@@ -15,12 +15,10 @@ ghost use Rattle.elementary.specs.Tests.{between, max_of};
 
 mod class;
 mod split;
-mod whole_root;
 
 pub use class::{FloatClass, IMPLICIT_BIT, classify, exponent_field, sign_bit, significand_field};
 pub use split::{Magnitude, Parts, Whole};
 use split::{Positive, floor, positive_parts};
-use whole_root::nearest_root;
 
 pub const LN_2: f64 = 0.6931471805599453;
 
@@ -124,21 +122,28 @@ fn signed_power(negative: bool, n: u64) -> f64
     }
 }
 
-// The root of a magnitude.
+// The root of a magnitude: with w its significand, or twice that, which makes its exponent even, the root of w by half the exponent's power.
 fn sqrt_steps(x: Magnitude) -> f64
     ensures { result ≡ sqrt_steps x.significand x.digits }
 {
     let half = (x.digits - 1) / 2;
-    if x.digits % 2 == 1 {
-        number(nearest_root(x.significand)) * power(half + 434)
+    let significand = number(x.significand);
+    let w = if x.digits % 2 == 1 {
+        significand
     } else {
-        number(nearest_root(2 * x.significand)) * power(half + 434)
-    }
+        2.0 * significand
+    };
+    w.sqrt() * power(half + 460)
 }
 
+// A normal number's root is the language's own operation, and so is +infinity's. What else there is, is taken apart, so that a subnormal
+// number is brought to 53 digits first.
 pub fn sqrt(x: f64) -> f64
     ensures { result ≡ SQRT x }
 {
+    if f64::MIN_POSITIVE <= x {
+        return x.sqrt();
+    }
     match positive_parts(x) {
         Positive::Not(answer) => answer,
         Positive::Zero { negative } => { if negative { -0.0 } else { 0.0 } }

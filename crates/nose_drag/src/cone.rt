@@ -32,18 +32,27 @@ fn stagnation_drag_slope(mach: f64) -> f64
     }
 }
 
+// The blunt cylinder's value alone (eq. B.2).
+#[tactic(auto, unfolding(crate::specs::Forms::blunt))]
+pub(crate) fn blunt_value(mach: f64) -> f64
+    ensures { result ≡ (blunt_of mach).value }
+{
+    0.85 * stagnation_ratio(mach)
+}
+
 // The blunt cylinder (eq. B.2): fineness 0, and a power series of exponent 0.
 #[tactic(auto, unfolding(crate::specs::Forms::blunt))]
 pub(crate) fn blunt(mach: f64) -> ValueAndSlope
     ensures { result ≡ blunt_of mach }
 {
     ValueAndSlope {
-        value: 0.85 * stagnation_ratio(mach),
+        value: blunt_value(mach),
         slope: stagnation_drag_slope(mach),
     }
 }
 
 // The cubic from `start` at x0 to `end` at x1, each a value and a slope there, at x.
+#[inline(always)]
 #[tactic(auto, unfolding(crate::specs::Forms::hermite))]
 fn hermite(x0: f64, start: ValueAndSlope, x1: f64, end: ValueAndSlope, x: f64) -> ValueAndSlope
     ensures { result ≡ hermite_of x0 start.value start.slope x1 end.value end.slope x }
@@ -64,6 +73,7 @@ fn hermite(x0: f64, start: ValueAndSlope, x1: f64, end: ValueAndSlope, x: f64) -
 }
 
 // Eq. B.4, with the root of M² - 1.
+#[inline(always)]
 #[tactic(auto, unfolding(crate::specs::Values::cone_by_root))]
 fn cone_by_root(s: f64, m: f64, root: f64) -> ValueAndSlope
     ensures { result ≡ cone_by_root s m root }
@@ -75,6 +85,7 @@ fn cone_by_root(s: f64, m: f64, root: f64) -> ValueAndSlope
 }
 
 // Eq. B.4, from Mach 1.3.
+#[inline(always)]
 #[tactic(auto, unfolding(crate::specs::Forms::cone_supersonic, crate::specs::Values::cone_by_root))]
 fn cone_supersonic(s: f64, m: f64) -> ValueAndSlope
     ensures { result ≡ cone_supersonic s m }
@@ -83,6 +94,7 @@ fn cone_supersonic(s: f64, m: f64) -> ValueAndSlope
 }
 
 // A cone's pressure drag from Mach 1, with s the sine of its half-angle (eq. B.4 to B.6, and the cubic between Mach 1 and 1.3).
+#[inline(always)]
 #[tactic(auto, unfolding(crate::specs::Forms::cone_transonic), using(crate::specs::Values::cone_by_root_lem, crate::specs::Values::cone_supersonic_root))]
 fn cone_transonic(s: f64, mach: f64) -> ValueAndSlope
     ensures { result ≡ cone_transonic s mach }
@@ -108,6 +120,7 @@ pub(crate) fn sin_half_angle(fineness_ratio: f64) -> f64
 }
 
 // A cone times an ogive's factor.
+#[inline(always)]
 #[tactic(auto, unfolding(crate::specs::Forms::cone_method))]
 pub(crate) fn cone_method(sin_half_angle: f64, factor: f64, mach: f64) -> ValueAndSlope
     ensures { result ≡ cone_method sin_half_angle factor mach }

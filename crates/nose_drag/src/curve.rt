@@ -2,19 +2,21 @@
 // own method again. Each call carries a depth number that falls; `DEPTH` is enough for every curve, so no answer depends on it. The number stays, and with
 // it what each call requires of it: a falling depth is a rule of this port (docs/DECISIONS.md, 28).
 ghost use Rattle.std.specs.Prelude.{◌≡◌, ◌≤◌, false, suc};
+ghost use Rattle.elementary.specs.Arithmetic.{◌⊕◌};
 ghost use Rattle.nose_drag.specs.Forms.{sin_half_angle};
+ghost use Rattle.nose_drag.specs.Below.{fit_at};
 ghost use Rattle.nose_drag.specs.Methods.{reference_at, method_at};
 ghost use Rattle.nose_drag.specs.Curves.{from_transonic, curve_at, step_curve};
 ghost use Rattle.nose_drag.specs.Beyond.{reference_beyond, method_beyond, drag_of};
 ghost use Rattle.nose_drag.specs.Depth.{depth_of_reference, depth_of_transonic};
 ghost use Rattle.nose_drag.specs.declared.curve.Transonic.TheVariants.{Cone};
 
-use crate::cone::{blunt, cone_method, sin_half_angle};
+use crate::cone::{blunt, blunt_value, cone_method, sin_half_angle};
 use crate::ellipsoid::ellipsoid;
 use crate::fit::Fit;
 use crate::scaling::{scaled, scaled_value};
 use aero_error::AeroError;
-use drag::{check_mach_any, stagnation_ratio};
+use drag::check_mach_any;
 use shapes::NoseShape;
 use stoney::{Reading, StoneyNose, ValueAndSlope};
 
@@ -132,13 +134,13 @@ impl Reference {
 
     // The value alone, and its mark. From Mach 1 a cone's whole curve is its method, so that only below a curve is made and asked, one call deeper.
     // By `value_and_slope` in its place a cone's coefficient above Mach 1 takes 1.06 times as long, a parabolic series' 1.05 (docs/DECISIONS.md, 77).
-    #[tactic(auto, unfolding(crate::specs::Forms::blunt), using(crate::specs::Values::whole_cone_above, crate::proofs::Cycle::cone_reference, crate::proofs::Cycle::kept_method))]
+    #[tactic(auto, using(crate::specs::Values::whole_cone_above, crate::proofs::Cycle::cone_reference, crate::proofs::Cycle::kept_method))]
     fn drag(self, mach: f64, depth: u8) -> PressureDrag
         requires { depth_of_reference self ≤ depth }
         ensures { result ≡ record { value = (reference_at self mach).value; beyond = reference_beyond self mach } }
     {
         match self {
-            Reference::Blunt => PressureDrag::computed(0.85 * stagnation_ratio(mach)),
+            Reference::Blunt => PressureDrag::computed(blunt_value(mach)),
             Reference::Cone {
                 fineness_ratio,
                 factor,
@@ -198,13 +200,13 @@ impl Transonic {
 
     // The value alone and its mark, which is all that a coefficient takes: each case hands on its numbers, and no method is copied.
     // By `value_and_slope` in its place a step's coefficient above Mach 1 takes 1.15 times as long, a parabolic series' 1.06 (docs/DECISIONS.md, 77).
-    #[tactic(auto, unfolding(crate::specs::Forms::blunt), using(crate::specs::Values::value_of_scaled))]
+    #[tactic(auto, using(crate::specs::Values::value_of_scaled))]
     fn drag(self, mach: f64, depth: u8) -> PressureDrag
         requires { depth_of_transonic self ≤ depth }
         ensures { result ≡ record { value = (method_at self mach).value; beyond = method_beyond self mach } }
     {
         match self {
-            Transonic::Blunt => PressureDrag::computed(0.85 * stagnation_ratio(mach)),
+            Transonic::Blunt => PressureDrag::computed(blunt_value(mach)),
             Transonic::Cone {
                 sin_half_angle,
                 factor,
@@ -255,6 +257,18 @@ impl PressureDragCurve {
         }
     }
 
+    // Below M_L: the value at rest and the fit above it. Inlined, as `coefficient` is, so that where the value alone is read no slope is worked out.
+    #[inline(always)]
+    fn below(self, mach: f64) -> ValueAndSlope
+        ensures { result ≡ record { value = self.rest ⊕ (fit_at self.fit mach self.mach_low).value; slope = (fit_at self.fit mach self.mach_low).slope } }
+    {
+        let rise = self.fit.eval(mach, self.mach_low);
+        ValueAndSlope {
+            value: self.rest + rise.value,
+            slope: rise.slope,
+        }
+    }
+
     // The value and slope at a checked Mach number.
     #[cycle(pressure_drag)]
     #[tactic(auto, unfolding(crate::specs::Below::fitted))]
@@ -263,11 +277,7 @@ impl PressureDragCurve {
         ensures { result ≡ curve_at self mach }
     {
         if mach < self.mach_low {
-            let rise = self.fit.eval(mach, self.mach_low);
-            ValueAndSlope {
-                value: self.rest + rise.value,
-                slope: rise.slope,
-            }
+            self.below(mach)
         } else {
             self.transonic.value_and_slope(mach, depth - 1)
         }
@@ -297,14 +307,14 @@ impl PressureDragCurve {
 
     // The coefficient at `mach`, on the increase in area, and whether any table that is read for it is read beyond its last point. What `new` reads
     // doesn't count, and below M_L no table is read.
+    #[inline(always)]
     #[tactic(auto, unfolding(crate::specs::Beyond::drag_of, crate::specs::Beyond::curve_beyond, crate::specs::Curves::coefficient_of, crate::specs::Below::fitted))]
     pub fn coefficient(self, mach: f64) -> Result<PressureDrag, AeroError>
         ensures { result ≡ drag_of self mach }
     {
         check_mach_any(mach)?;
         if mach < self.mach_low {
-            let rise = self.fit.eval(mach, self.mach_low);
-            Ok(PressureDrag::computed(self.rest + rise.value))
+            Ok(PressureDrag::computed(self.below(mach).value))
         } else {
             Ok(self.transonic.drag(mach, DEPTH - 1))
         }

@@ -23,6 +23,7 @@ const HEMISPHERE_FINENESS: f64 = 0.5;
 const ROUND_HEAD_FINENESS: f64 = 1.0;
 
 // An ellipsoid below Mach 0.8: Hoerner's line from the hemisphere on, held at 0; blunter, eq. B.9's form between the flat face and the hemisphere.
+#[inline(always)]
 #[tactic(auto, unfolding(crate::specs::Methods::ellipsoid_low_speed))]
 fn ellipsoid_low_speed(fineness_ratio: f64, mach: f64) -> ValueAndSlope
     ensures { result ≡ ellipsoid_low_speed fineness_ratio mach }
@@ -47,6 +48,7 @@ fn ellipsoid_low_speed(fineness_ratio: f64, mach: f64) -> ValueAndSlope
 }
 
 // The same, or the value at rest where that is more.
+#[inline(always)]
 #[tactic(auto, unfolding(crate::specs::Methods::ellipsoid_at_least_rest))]
 fn ellipsoid_at_least_rest(fineness_ratio: f64, rest: f64, mach: f64) -> ValueAndSlope
     ensures { result ≡ ellipsoid_at_least_rest fineness_ratio rest mach }

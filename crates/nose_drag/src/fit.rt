@@ -30,6 +30,7 @@ impl Fit {
     }
 
     // The fit's value and slope at `mach`, above the value at rest.
+    #[inline(always)]
     #[tactic(auto, unfolding(crate::specs::Below::power_at, crate::specs::Below::quadratic_at))]
     pub(crate) fn eval(self, mach: f64, mach_low: f64) -> ValueAndSlope
         ensures { result ≡ fit_at self mach mach_low }

@@ -1,11 +1,10 @@
 // Eq. B.9: from drag measured at fineness 3 and the blunt cylinder's to another fineness ratio, and between two references.
 ghost use Rattle.std.specs.Prelude.{◌≡◌};
-ghost use Rattle.nose_drag.specs.Methods.{fineness_scaled, fineness_exponent, scaled as scaled_of, fineness_scaled_pressure_drag};
+ghost use Rattle.nose_drag.specs.Methods.{fineness_scaled, fineness_exponent, mixed, scaled as scaled_of, fineness_scaled_pressure_drag};
 ghost use Rattle.nose_drag.specs.Values.{scaled_value};
 
-use crate::cone::blunt;
+use crate::cone::{blunt, blunt_value};
 use aero_error::{AeroError, Quantity, check_dimension};
-use drag::stagnation_ratio;
 use elementary::LN_2;
 use stoney::ValueAndSlope;
 
@@ -41,8 +40,29 @@ pub fn fineness_scaled_pressure_drag(
     Ok(fineness_scaled(c3, c0, fineness_exponent(fineness_ratio)))
 }
 
-// Two references' values interpolated by the weight of the upper one, and scaled by eq. B.9.
-#[tactic(auto, unfolding(crate::specs::Methods::scaled))]
+// From one reference to the other by the weight of the upper one.
+fn mixed(lo: f64, hi: f64, weight: f64) -> f64
+    ensures { result ≡ mixed lo hi weight }
+{
+    lo + weight * (hi - lo)
+}
+
+// Two references' values interpolated by the weight of the upper one, and scaled by eq. B.9; no drag where nothing is left to scale. By
+// `value_and_slope` all the way a parabolic series' coefficient above Mach 1 takes 1.10 times as long (docs/DECISIONS.md, 77).
+#[tactic(auto, unfolding(crate::specs::Values::scaled_value, crate::specs::Forms::blunt))]
+pub(crate) fn scaled_value(lo: f64, hi: f64, weight: f64, exponent: f64, mach: f64) -> f64
+    ensures { result ≡ scaled_value lo hi weight exponent mach }
+{
+    let c3 = mixed(lo, hi, weight);
+    if c3 <= 0.0 {
+        return 0.0;
+    }
+    fineness_scaled(c3, blunt_value(mach), exponent)
+}
+
+// The same with its slope. Inlined, so that none is worked out where the value alone is read.
+#[inline(always)]
+#[tactic(auto, unfolding(crate::specs::Methods::scaled, crate::specs::Values::scaled_value, crate::specs::Forms::blunt))]
 pub(crate) fn scaled(
     lo: ValueAndSlope,
     hi: ValueAndSlope,
@@ -52,30 +72,16 @@ pub(crate) fn scaled(
 ) -> ValueAndSlope
     ensures { result ≡ scaled_of lo hi weight exponent mach }
 {
-    let c3 = lo.value + weight * (hi.value - lo.value);
-    let c3_slope = lo.slope + weight * (hi.slope - lo.slope);
+    let c = scaled_value(lo.value, hi.value, weight, exponent, mach);
+    let c3 = mixed(lo.value, hi.value, weight);
+    let c3_slope = mixed(lo.slope, hi.slope, weight);
     let c0 = blunt(mach);
-    if c3 <= 0.0 {
-        return ValueAndSlope {
-            value: 0.0,
-            slope: 0.0,
-        };
-    }
-    let c = fineness_scaled(c3, c0.value, exponent);
     ValueAndSlope {
         value: c,
-        slope: c * ((1.0 - exponent) * c0.slope / c0.value + exponent * c3_slope / c3),
+        slope: if c3 <= 0.0 {
+            0.0
+        } else {
+            c * ((1.0 - exponent) * c0.slope / c0.value + exponent * c3_slope / c3)
+        },
     }
-}
-
-// The value alone. By `value_and_slope` all the way a parabolic series' coefficient above Mach 1 takes 1.10 times as long (docs/DECISIONS.md, 77).
-#[tactic(auto, unfolding(crate::specs::Values::scaled_value))]
-pub(crate) fn scaled_value(lo: f64, hi: f64, weight: f64, exponent: f64, mach: f64) -> f64
-    ensures { result ≡ scaled_value lo hi weight exponent mach }
-{
-    let c3 = lo + weight * (hi - lo);
-    if c3 <= 0.0 {
-        return 0.0;
-    }
-    fineness_scaled(c3, 0.85 * stagnation_ratio(mach), exponent)
 }

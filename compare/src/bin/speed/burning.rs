@@ -20,12 +20,12 @@ const SEED: u64 = 0x5eed_000e;
 
 /// Ignites one full sheet with nozzle after nozzle.
 fn ignite_pass(f: Ignite, sheet: &SheetWords, nozzles: &[f64]) -> u64 {
-    let mut lent = Lent::<CELLS>::new();
+    let mut lent = Lent::new(CELLS);
     let (mut words, mut bits, mut sum) = (*sheet, 0, 0u64);
-    for &n in nozzles {
-        let (cells, marks) = (lent.cells.as_mut_ptr(), lent.marks.as_mut_ptr());
+    for &nozzle in nozzles {
+        let (cells, marks, n) = lent.lend();
         // SAFETY: all are our own and apart.
-        let status = unsafe { f(&mut words, n, cells, CELLS, marks, CELLS, &mut bits) };
+        let status = unsafe { f(&mut words, nozzle, cells, n, marks, n, &mut bits) };
         assert_eq!(status, 0);
         sum = sum.wrapping_add(lent.sum());
     }
@@ -34,13 +34,13 @@ fn ignite_pass(f: Ignite, sheet: &SheetWords, nozzles: &[f64]) -> u64 {
 
 /// Burns out each of these sheets.
 fn burnout_pass(f: Burnout, sheets: &[SheetWords]) -> u64 {
-    let mut lent = Lent::<CELLS>::new();
+    let mut lent = Lent::new(CELLS);
     let mut sum = 0u64;
     for sheet in sheets {
         let (mut words, mut bits) = (*sheet, 0);
-        let (cells, marks) = (lent.cells.as_mut_ptr(), lent.marks.as_mut_ptr());
+        let (cells, marks, n) = lent.lend();
         // SAFETY: all are our own and apart.
-        let status = unsafe { f(&mut words, cells, CELLS, marks, CELLS, &mut bits) };
+        let status = unsafe { f(&mut words, cells, n, marks, n, &mut bits) };
         assert_eq!(status, 0);
         sum = sum.wrapping_add(lent.sum());
     }

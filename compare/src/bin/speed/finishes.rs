@@ -43,13 +43,13 @@ fn builds(one: &Sheets, four: &Sheets) {
     let (port, original) = black_box((raw::cobalnis_insert_raw as Edit, theirs::insert as Edit));
     let with_one = measure(
         one.len(),
-        &mut || build_pass::<CELLS>(port, one),
-        &mut || build_pass::<CELLS>(original, one),
+        &mut || build_pass(port, CELLS, one),
+        &mut || build_pass(original, CELLS, one),
     );
     let with_four = measure(
         four.len(),
-        &mut || build_pass::<ALL_CELLS>(port, four),
-        &mut || build_pass::<ALL_CELLS>(original, four),
+        &mut || build_pass(port, ALL_CELLS, four),
+        &mut || build_pass(original, ALL_CELLS, four),
     );
     rows_of("whole build", with_four, with_one);
 }
@@ -58,13 +58,13 @@ fn replaces(one: &SheetWords, four: &SheetWords, parts: &[(usize, PartWords)]) {
     let (port, original) = black_box((raw::cobalnis_replace_raw as Edit, theirs::replace as Edit));
     let with_one = measure(
         parts.len(),
-        &mut || replace_pass::<CELLS>(port, one, parts),
-        &mut || replace_pass::<CELLS>(original, one, parts),
+        &mut || replace_pass(port, CELLS, one, parts),
+        &mut || replace_pass(original, CELLS, one, parts),
     );
     let with_four = measure(
         parts.len(),
-        &mut || replace_pass::<ALL_CELLS>(port, four, parts),
-        &mut || replace_pass::<ALL_CELLS>(original, four, parts),
+        &mut || replace_pass(port, ALL_CELLS, four, parts),
+        &mut || replace_pass(original, ALL_CELLS, four, parts),
     );
     rows_of("replace", with_four, with_one);
 }
@@ -76,13 +76,13 @@ fn set_columns(one: &SheetWords, four: &SheetWords, columns: &[(usize, f64, f64)
     ));
     let with_one = measure(
         columns.len(),
-        &mut || column_pass::<CELLS>(port, one, columns),
-        &mut || column_pass::<CELLS>(original, one, columns),
+        &mut || column_pass(port, CELLS, one, columns),
+        &mut || column_pass(original, CELLS, one, columns),
     );
     let with_four = measure(
         columns.len(),
-        &mut || column_pass::<ALL_CELLS>(port, four, columns),
-        &mut || column_pass::<ALL_CELLS>(original, four, columns),
+        &mut || column_pass(port, ALL_CELLS, four, columns),
+        &mut || column_pass(original, ALL_CELLS, four, columns),
     );
     rows_of("set column", with_four, with_one);
 }

@@ -12,6 +12,7 @@ mod cards;
 mod curves;
 mod finishes;
 mod formulas;
+mod growth;
 mod passes;
 mod sheets;
 mod timing;
@@ -24,6 +25,7 @@ use cards::cards;
 use curves::curves;
 use finishes::four_finishes;
 use formulas::formulas;
+use growth::growth;
 use sheets::{builds, rebuilds, removes, replaces, set_columns};
 use timing::{row, Times};
 use walks::walks;
@@ -31,7 +33,7 @@ use walks::walks;
 /// Inputs of a kind; a turn goes through all of them, again and again.
 const INPUTS: usize = 1024;
 
-/// What to know about the original's side.
+/// What to know about the rows.
 const NOTES: &str = "
 - Formulas go through one numbered function on either side, so each pays for finding its formula.
 - `coefficient` is asked 1024 times for each curve built.
@@ -71,5 +73,6 @@ fn main() {
     cards(&mut random);
     walks(&mut random);
     four_finishes();
+    growth();
     println!("{NOTES}");
 }

@@ -33,62 +33,64 @@ pub type SetColumn = unsafe extern "C" fn(
 pub const CELLS: usize = rows(1) * COLUMNS;
 
 /// What a pass lends, as many cells as marks.
-pub struct Lent<const N: usize> {
-    pub cells: [f64; N],
-    pub marks: [u8; N],
+pub struct Lent {
+    cells: Vec<f64>,
+    marks: Vec<u8>,
 }
 
-impl<const N: usize> Lent<N> {
-    pub fn new() -> Self {
+impl Lent {
+    pub fn new(count: usize) -> Self {
         Self {
-            cells: [0.0; N],
-            marks: [0; N],
+            cells: vec![0.0; count],
+            marks: vec![0; count],
         }
+    }
+
+    /// Cells, marks and how many there are.
+    pub fn lend(&mut self) -> (*mut f64, *mut u8, usize) {
+        let count = self.cells.len();
+        (self.cells.as_mut_ptr(), self.marks.as_mut_ptr(), count)
     }
 
     /// The last column's total, in the last finish, and a part's cell stand for all cells. Marks are
     /// the port's alone.
     pub fn sum(&self) -> u64 {
-        self.cells[N - 1].to_bits() ^ self.cells[COLUMNS + 3].to_bits()
+        let count = self.cells.len();
+        self.cells[count - 1].to_bits() ^ self.cells[count / 4].to_bits()
     }
 }
 
-/// Inserts the 16th part into each sheet of 15, which writes all rows.
-pub fn build_pass<const N: usize>(f: Edit, sheets: &[(SheetWords, PartWords)]) -> u64 {
-    let mut lent = Lent::<N>::new();
+/// Inserts into each sheet its last part, which writes all rows.
+pub fn build_pass(f: Edit, count: usize, sheets: &[(SheetWords, PartWords)]) -> u64 {
+    let mut lent = Lent::new(count);
     let mut sum = 0u64;
     for (sheet, part) in sheets {
         let mut words = *sheet;
-        accepted(f, &mut words, PLACES - 1, part, &mut lent);
+        let last = words[PARTS_AT] as usize;
+        accepted(f, &mut words, last, part, &mut lent);
         sum = sum.wrapping_add(lent.sum());
     }
     sum
 }
 
 /// One call that puts a part at a place, and is accepted.
-fn accepted<const N: usize>(
-    f: Edit,
-    words: &mut SheetWords,
-    place: usize,
-    part: &PartWords,
-    lent: &mut Lent<N>,
-) {
+fn accepted(f: Edit, words: &mut SheetWords, place: usize, part: &PartWords, lent: &mut Lent) {
     let mut bits = 0;
-    let (cells, marks) = (lent.cells.as_mut_ptr(), lent.marks.as_mut_ptr());
+    let (cells, marks, n) = lent.lend();
     // SAFETY: all are borrowed apart, and cells and marks are as many as is said.
-    let status = unsafe { f(words, place, part, cells, N, marks, N, &mut bits) };
+    let status = unsafe { f(words, place, part, cells, n, marks, n, &mut bits) };
     assert_eq!(status, 0);
 }
 
 /// Opens each sheet and inserts all of its parts: what a host without replace would do.
 pub fn rebuild_pass(open: Open, insert: Edit, sheets: &[SheetWords]) -> u64 {
-    let mut lent = Lent::<CELLS>::new();
+    let mut lent = Lent::new(CELLS);
     let mut sum = 0u64;
     for sheet in sheets {
         let (mut words, mut bits) = (*sheet, 0);
-        let (cells, marks) = (lent.cells.as_mut_ptr(), lent.marks.as_mut_ptr());
+        let (cells, marks, n) = lent.lend();
         // SAFETY: all are our own and apart.
-        let status = unsafe { open(&mut words, cells, CELLS, marks, CELLS, &mut bits) };
+        let status = unsafe { open(&mut words, cells, n, marks, n, &mut bits) };
         assert_eq!(status, 0);
         let (parts, rest) = sheet[FIRST_PART..].as_chunks::<PART_WORDS>();
         assert!(rest.is_empty());
@@ -101,12 +103,13 @@ pub fn rebuild_pass(open: Open, insert: Edit, sheets: &[SheetWords]) -> u64 {
 }
 
 /// Replaces part after part in one full sheet.
-pub fn replace_pass<const N: usize>(
+pub fn replace_pass(
     f: Edit,
+    count: usize,
     sheet: &SheetWords,
     parts: &[(usize, PartWords)],
 ) -> u64 {
-    let mut lent = Lent::<N>::new();
+    let mut lent = Lent::new(count);
     let (mut words, mut sum) = (*sheet, 0u64);
     for (place, part) in parts {
         accepted(f, &mut words, *place, part, &mut lent);
@@ -117,24 +120,14 @@ pub fn replace_pass<const N: usize>(
 
 /// Removes a part from each full sheet.
 pub fn remove_pass(f: Remove, sheets: &[(SheetWords, PartWords)]) -> u64 {
-    let mut lent = Lent::<CELLS>::new();
+    let mut lent = Lent::new(CELLS);
     let mut sum = 0u64;
     for (at, (sheet, _)) in sheets.iter().enumerate() {
         let (mut words, mut bits) = (*sheet, 0);
         words[PARTS_AT] = PLACES as u64;
-        let (cells, marks) = (lent.cells.as_mut_ptr(), lent.marks.as_mut_ptr());
+        let (cells, marks, n) = lent.lend();
         // SAFETY: all are our own and apart.
-        let status = unsafe {
-            f(
-                &mut words,
-                at % PLACES,
-                cells,
-                CELLS,
-                marks,
-                CELLS,
-                &mut bits,
-            )
-        };
+        let status = unsafe { f(&mut words, at % PLACES, cells, n, marks, n, &mut bits) };
         assert_eq!(status, 0);
         sum = sum.wrapping_add(lent.sum());
     }
@@ -142,19 +135,20 @@ pub fn remove_pass(f: Remove, sheets: &[(SheetWords, PartWords)]) -> u64 {
 }
 
 /// Sets column after column in one full sheet.
-pub fn column_pass<const N: usize>(
+pub fn column_pass(
     f: SetColumn,
+    count: usize,
     sheet: &SheetWords,
     columns: &[(usize, f64, f64)],
 ) -> u64 {
-    let mut lent = Lent::<N>::new();
+    let mut lent = Lent::new(count);
     let (mut words, mut bits, mut sum) = (*sheet, 0, 0u64);
     for &(column, mach, reynolds) in columns {
-        let (cells, marks) = (lent.cells.as_mut_ptr(), lent.marks.as_mut_ptr());
+        let (cells, marks, n) = lent.lend();
         // SAFETY: all are our own and apart.
         let status = unsafe {
             f(
-                &mut words, column, mach, reynolds, cells, N, marks, N, &mut bits,
+                &mut words, column, mach, reynolds, cells, n, marks, n, &mut bits,
             )
         };
         assert_eq!(status, 0);

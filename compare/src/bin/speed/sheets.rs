@@ -102,8 +102,8 @@ fn time_builds(sheets: &[(SheetWords, PartWords)]) -> Times {
     let (port, original) = black_box((raw::cobalnis_insert_raw as Edit, theirs::insert as Edit));
     measure(
         sheets.len(),
-        &mut || build_pass::<CELLS>(port, sheets),
-        &mut || build_pass::<CELLS>(original, sheets),
+        &mut || build_pass(port, CELLS, sheets),
+        &mut || build_pass(original, CELLS, sheets),
     )
 }
 
@@ -167,8 +167,8 @@ fn time_replaces(full: &SheetWords, parts: &[(usize, PartWords)]) -> Times {
     let (port, original) = black_box((raw::cobalnis_replace_raw as Edit, theirs::replace as Edit));
     measure(
         parts.len(),
-        &mut || replace_pass::<CELLS>(port, full, parts),
-        &mut || replace_pass::<CELLS>(original, full, parts),
+        &mut || replace_pass(port, CELLS, full, parts),
+        &mut || replace_pass(original, CELLS, full, parts),
     )
 }
 
@@ -231,8 +231,8 @@ pub fn set_columns(random: &mut Random) {
     ));
     let times = measure(
         columns.len(),
-        &mut || column_pass::<CELLS>(port, &full, &columns),
-        &mut || column_pass::<CELLS>(original, &full, &columns),
+        &mut || column_pass(port, CELLS, &full, &columns),
+        &mut || column_pass(original, CELLS, &full, &columns),
     );
     row("set column in a full sheet", times);
 }
