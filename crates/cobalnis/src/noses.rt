@@ -96,7 +96,7 @@ fn curve_of(
     )
 }
 
-// The bits of a coefficient, or of the value refused, and its mark.
+// The bits of a coefficient, or of the value refused, and its mark. Inlined, so that the curve isn't copied for each Mach number.
 #[inline(always)]
 #[tactic(auto, using(drag_sheet::proofs::MadeCells::byte_of))]
 fn coefficient_at(curve: PressureDragCurve, mach: f64) -> (u64, u8)

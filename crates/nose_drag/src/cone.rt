@@ -1,4 +1,5 @@
 // The blunt cylinder at any Mach number and the cone from Mach 1 (Niskanen 2009, eq. B.1 to B.6), and eq. B.8's factor of an ogive.
+// What gives a value and its slope is inlined, here and in the files beside, so that where the value alone is read no slope is worked out.
 ghost use Rattle.std.specs.Prelude.{◌≡◌};
 ghost use Rattle.nose_drag.specs.Forms.{stagnation_drag_slope, blunt as blunt_of, hermite as hermite_of, cone_supersonic, cone_transonic, sin_half_angle, cone_method};
 ghost use Rattle.nose_drag.specs.Values.{cone_by_root};
@@ -32,7 +33,7 @@ fn stagnation_drag_slope(mach: f64) -> f64
     }
 }
 
-// The blunt cylinder's value alone (eq. B.2).
+// The blunt cylinder (eq. B.2), the value alone: fineness 0, and a power series of exponent 0.
 #[tactic(auto, unfolding(crate::specs::Forms::blunt))]
 pub(crate) fn blunt_value(mach: f64) -> f64
     ensures { result ≡ (blunt_of mach).value }
@@ -40,7 +41,7 @@ pub(crate) fn blunt_value(mach: f64) -> f64
     0.85 * stagnation_ratio(mach)
 }
 
-// The blunt cylinder (eq. B.2): fineness 0, and a power series of exponent 0.
+// The same with its slope.
 #[tactic(auto, unfolding(crate::specs::Forms::blunt))]
 pub(crate) fn blunt(mach: f64) -> ValueAndSlope
     ensures { result ≡ blunt_of mach }

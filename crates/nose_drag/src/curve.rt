@@ -133,7 +133,7 @@ impl Reference {
     }
 
     // The value alone, and its mark. From Mach 1 a cone's whole curve is its method, so that only below a curve is made and asked, one call deeper.
-    // By `value_and_slope` in its place a cone's coefficient above Mach 1 takes 1.06 times as long, a parabolic series' 1.05 (docs/DECISIONS.md, 77).
+    // By `value_and_slope` in its place a cone's coefficient above Mach 1 takes 1.17 times as long, a parabolic series' 1.12 (docs/DECISIONS.md, 77).
     #[tactic(auto, using(crate::specs::Values::whole_cone_above, crate::proofs::Cycle::cone_reference, crate::proofs::Cycle::kept_method))]
     fn drag(self, mach: f64, depth: u8) -> PressureDrag
         requires { depth_of_reference self ≤ depth }
@@ -199,7 +199,7 @@ impl Transonic {
     }
 
     // The value alone and its mark, which is all that a coefficient takes: each case hands on its numbers, and no method is copied.
-    // By `value_and_slope` in its place a step's coefficient above Mach 1 takes 1.15 times as long, a parabolic series' 1.06 (docs/DECISIONS.md, 77).
+    // docs/DECISIONS.md, 77, says what that brings.
     #[tactic(auto, using(crate::specs::Values::value_of_scaled))]
     fn drag(self, mach: f64, depth: u8) -> PressureDrag
         requires { depth_of_transonic self ≤ depth }
@@ -257,7 +257,7 @@ impl PressureDragCurve {
         }
     }
 
-    // Below M_L: the value at rest and the fit above it. Inlined, as `coefficient` is, so that where the value alone is read no slope is worked out.
+    // Below M_L: the value at rest and the fit above it. Inlined, so that where the value alone is read no slope is worked out.
     #[inline(always)]
     fn below(self, mach: f64) -> ValueAndSlope
         ensures { result ≡ record { value = self.rest ⊕ (fit_at self.fit mach self.mach_low).value; slope = (fit_at self.fit mach self.mach_low).slope } }
@@ -306,7 +306,7 @@ impl PressureDragCurve {
     }
 
     // The coefficient at `mach`, on the increase in area, and whether any table that is read for it is read beyond its last point. What `new` reads
-    // doesn't count, and below M_L no table is read.
+    // doesn't count, and below M_L no table is read. Inlined, so that the curve isn't copied for each Mach number.
     #[inline(always)]
     #[tactic(auto, unfolding(crate::specs::Beyond::drag_of, crate::specs::Beyond::curve_beyond, crate::specs::Curves::coefficient_of, crate::specs::Below::fitted))]
     pub fn coefficient(self, mach: f64) -> Result<PressureDrag, AeroError>

@@ -47,8 +47,7 @@ fn mixed(lo: f64, hi: f64, weight: f64) -> f64
     lo + weight * (hi - lo)
 }
 
-// Two references' values interpolated by the weight of the upper one, and scaled by eq. B.9; no drag where nothing is left to scale. By
-// `value_and_slope` all the way a parabolic series' coefficient above Mach 1 takes 1.10 times as long (docs/DECISIONS.md, 77).
+// Two references' values interpolated by the weight of the upper one, and scaled by eq. B.9; no drag where nothing is left to scale.
 #[tactic(auto, unfolding(crate::specs::Values::scaled_value, crate::specs::Forms::blunt))]
 pub(crate) fn scaled_value(lo: f64, hi: f64, weight: f64, exponent: f64, mach: f64) -> f64
     ensures { result ≡ scaled_value lo hi weight exponent mach }
