@@ -45,15 +45,13 @@ pub(crate) fn replaced(sheet: Sheet, place: usize, part: Part) -> Sheet
     left
 }
 
-// A column put anew.
-pub(crate) fn with_column(sheet: Sheet, column: usize, mach: f64, reynolds: f64) -> Sheet
-    requires { (column < most_columns) × (sheet.design.count ≤ most_parts) }
-    ensures { result ≡ left_by (column_call column mach reynolds) sheet }
+// A column put anew, where it stands.
+pub(crate) fn put_column(sheet: &mut Sheet, column: usize, mach: f64, reynolds: f64)
+    requires { (column < most_columns) × (sheet.old.design.count ≤ most_parts) }
+    ensures { sheet.new ≡ left_by (column_call column mach reynolds) sheet.old }
 {
-    let mut left = sheet;
-    left.settings.machs[column] = mach;
-    left.settings.reynolds[column] = reynolds;
-    left
+    sheet.settings.machs[column] = mach;
+    sheet.settings.reynolds[column] = reynolds;
 }
 
 // The settings with one column alone.

@@ -145,7 +145,7 @@ pub fn set_column(
     )?;
     rows::write_column(column, layout, &values[..all], cells);
     rows::write_column(column, layout, &value_marks[..all], marks);
-    *sheet = edits::with_column(*sheet, column, mach, reynolds);
+    edits::put_column(sheet, column, mach, reynolds);
     Ok(())
 }
 
@@ -164,7 +164,7 @@ fn row_at(sheet: Sheet, place: usize, out: &mut [f64], marks: &mut [u8]) -> Resu
     ensures marks { Filled (row_test (contents_of sheet) place) (row_of mark_plane (contents_of sheet) place) result marks.new }
 {
     let fore = body::fore_diameter(sheet.design, place);
-    part::part_row(sheet.settings, fore, sheet.design.parts[place], out, marks)
+    part::part_row(&sheet.settings, fore, sheet.design.parts[place], out, marks)
 }
 
 // Writes a part's own row, which is built, and the next part's, and the friction, base and total rows; or nothing, where the next

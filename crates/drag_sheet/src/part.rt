@@ -124,15 +124,15 @@ fn fill_row(row: Row, machs: &[f64], out: &mut [f64], marks: &mut [u8]) -> Resul
 
 // The row of a part after one with the aft diameter `fore`, into `out` and `marks`, one cell and one mark for each column.
 pub(crate) fn part_row(
-    settings: Settings,
+    settings: &Settings,
     fore: f64,
     part: Part,
     out: &mut [f64],
     marks: &mut [u8],
 ) -> Result<(), AeroError>
-    requires { (settings.count ≤ most_columns) × (length out.old ≡ settings.count) × (length marks.old ≡ settings.count) }
-    ensures cells { Filled (row_test_from (prepared_of settings.reference_diameter fore part) settings) (row_from cell_plane (prepared_of settings.reference_diameter fore part) settings) result out.new }
-    ensures marks { Filled (row_test_from (prepared_of settings.reference_diameter fore part) settings) (row_from mark_plane (prepared_of settings.reference_diameter fore part) settings) result marks.new }
+    requires { (settings.now.count ≤ length settings.now.machs) × (length out.old ≡ settings.now.count) × (length marks.old ≡ settings.now.count) }
+    ensures cells { Filled (row_test_from (prepared_of settings.now.reference_diameter fore part) settings.now) (row_from cell_plane (prepared_of settings.now.reference_diameter fore part) settings.now) result out.new }
+    ensures marks { Filled (row_test_from (prepared_of settings.now.reference_diameter fore part) settings.now) (row_from mark_plane (prepared_of settings.now.reference_diameter fore part) settings.now) result marks.new }
 {
     let row = prepare(settings.reference_diameter, fore, part)?;
     fill_row(row, &settings.machs[..settings.count], out, marks)

@@ -190,7 +190,7 @@ fn part_rows(sheet: Sheet, cells: &mut [f64], marks: &mut [u8]) -> Result<(), Ae
         let at = offset(layout, place);
         let end = at + count;
         part::part_row(
-            settings,
+            &settings,
             fore,
             *part,
             &mut cells[at..end],

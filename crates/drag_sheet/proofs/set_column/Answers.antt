@@ -63,9 +63,9 @@ write_column-requires-2 c =
     let m = (made_long (goal.at.write_column-requires-2 c).After-build_column (small (goal.at.write_column-requires-2 c).After-rows-all)).1 in
     (rw c.layout_of-layout.ensures.1 f.within, rw (c.layout_of-layout.ensures.0, c.layout_of-layout.ensures.1) (fits_marks (lent c.args.cells.now c.args.marks.now) f.fits).room, rw (take_at c.build_column.new.marks _ _ m, m) c.rows-all.ensures)
 
-pub with_column-requires : goal.with_column-requires
-with_column-requires c =
-    let f = facts (goal.at.with_column-requires c).In_ok-check_set_column in
+pub put_column-requires : goal.put_column-requires
+put_column-requires c =
+    let f = facts (goal.at.put_column-requires c).In_ok-check_set_column in
     (omega (arith, f.within, f.fits.columns), f.fits.parts)
 
 pub returns : goal.returns
@@ -77,7 +77,7 @@ returns c =
     let l = made_long (goal.at.returns c).After-build_column (small (goal.at.returns c).After-rows-all) in
     let none : ℕ = 0 in
     let layout = c.layout_of-layout.ensures in
-    called (set_column c.args.column c.args.mach c.args.reynolds) _ _ _ _ _ _ (passed (goal.at.returns c).In_ok-check_set_column) v.cells.verdict c.with_column.ensures
+    called (set_column c.args.column c.args.mach c.args.reynolds) _ _ _ _ _ _ (passed (goal.at.returns c).In_ok-check_set_column) v.cells.verdict c.put_column.ensures
     (rw ok)
     (both_chosen c.build_column.result (lent c.args.cells.now c.args.marks.now) (lent c.write_column.new.cells c.write_column-2.new.cells) (column c.args.column) (after (set_column c.args.column c.args.mach c.args.reynolds) c.args.sheet.now)
     (c.write_column.ensures nan ∙ rw (ok, layout.0, layout.1, take_at c.build_column.new.cells _ _ l.0, v.cells.made tried))
