@@ -43,9 +43,9 @@ fn flows_of(settings: Settings) -> [Result<Flow, AeroError>; COLUMNS]
 }
 
 // The flows where a column is asked more than once: by several finishes, or by a part's own roughness too.
-pub(crate) fn kept_flows(sheet: Sheet) -> Option<[Result<Flow, AeroError>; COLUMNS]>
-    requires { (sheet.settings.count ≤ most_columns) × (sheet.design.count ≤ most_parts) }
-    ensures { KeptFlows sheet result }
+pub(crate) fn kept_flows(sheet: &Sheet) -> Option<[Result<Flow, AeroError>; COLUMNS]>
+    requires { (sheet.now.settings.count ≤ most_columns) × (sheet.now.design.count ≤ most_parts) }
+    ensures { KeptFlows sheet.now result }
 {
     if 1 < sheet.settings.finishes || any_own(&sheet.design.parts[..sheet.design.count]) {
         return Some(flows_of(sheet.settings));
@@ -153,11 +153,11 @@ fn add_common(parts: &[Part], common: &[f64], sum: &mut [f64])
 }
 
 // The friction row of a finish by the flow of each column, added up in `sum`, which holds +0.
-fn sum_kept(sheet: Sheet, finish: usize, flows: &[Result<Flow, AeroError>], sum: &mut [f64])
-    requires { SumAsked sheet finish sum.old × Flows sheet.settings flows.now × (length flows.now ≡ sheet.settings.count) }
-    ensures { sum.new ≡ friction_row_cells (contents_of sheet) finish }
+fn sum_kept(sheet: &Sheet, finish: usize, flows: &[Result<Flow, AeroError>], sum: &mut [f64])
+    requires { SumAsked sheet.now finish sum.old × Flows sheet.now.settings flows.now × (length flows.now ≡ sheet.now.settings.count) }
+    ensures { sum.new ≡ friction_row_cells (contents_of sheet.now) finish }
 {
-    let settings = sheet.settings;
+    let settings = &sheet.settings;
     let count = settings.count;
     let form = drag::body_friction_form_factor(settings.body_fineness).unwrap_or(0.0);
     let mut common = [0.0; COLUMNS];
@@ -196,16 +196,16 @@ fn sum_common(sheet: Sheet, finish: usize, sum: &mut [f64])
 
 // The friction row of a finish, added up in `sum`, which holds +0.
 pub(crate) fn sum_parts(
-    sheet: Sheet,
+    sheet: &Sheet,
     finish: usize,
     flows: &Option<[Result<Flow, AeroError>; COLUMNS]>,
     sum: &mut [f64],
 )
-    requires { SumAsked sheet finish sum.old × KeptFlows sheet flows.now }
-    ensures { sum.new ≡ friction_row_cells (contents_of sheet) finish }
+    requires { SumAsked sheet.now finish sum.old × KeptFlows sheet.now flows.now }
+    ensures { sum.new ≡ friction_row_cells (contents_of sheet.now) finish }
 {
     match flows {
         Some(flows) => sum_kept(sheet, finish, &flows[..sheet.settings.count], sum),
-        None => sum_common(sheet, finish, sum),
+        None => sum_common(*sheet, finish, sum),
     }
 }

@@ -191,10 +191,10 @@ fn write_two(
     let next_at = offset(layout, after);
     write_row(at, own, cells);
     write_row(next_at, &next[..count], cells);
-    rows::write_body(sheet, cells);
+    rows::write_body(&sheet, cells);
     write_row(at, own_marks, marks);
     write_row(next_at, &next_marks[..count], marks);
-    mark_body(sheet, marks);
+    mark_body(&sheet, marks);
     Ok(())
 }
 
@@ -225,9 +225,9 @@ fn write_changed(
     }
     let at = offset(layout_of(sheet.settings), place);
     write_row(at, &own[..count], cells);
-    rows::write_body(sheet, cells);
+    rows::write_body(&sheet, cells);
     write_row(at, &own_marks[..count], marks);
-    mark_body(sheet, marks);
+    mark_body(&sheet, marks);
     Ok(())
 }
 
@@ -256,8 +256,8 @@ fn put_nozzle(sheet: Sheet, nozzle_diameter: f64, cells: &mut [f64], marks: &mut
 {
     let mut left = sheet;
     left.nozzle_diameter = nozzle_diameter;
-    rows::write_nozzle_rows(left, cells);
-    mark_nozzle_rows(left, marks);
+    rows::write_nozzle_rows(&left, cells);
+    mark_nozzle_rows(&left, marks);
     left
 }
 

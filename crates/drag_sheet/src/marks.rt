@@ -76,18 +76,18 @@ fn clear(layout: Layout, first: usize, count: usize, marks: &mut [u8])
 }
 
 // Writes the marks of the base and total rows anew.
-pub(crate) fn mark_nozzle_rows(sheet: Sheet, marks: &mut [u8])
-    requires { Fits sheet (length marks.old) }
-    ensures { marks.new ≡ totalled mark_plane sheet.settings.finishes sheet.settings.count (rows_written sheet.settings.count (row_of mark_plane (contents_of sheet)) (nozzle_rows sheet.settings.finishes) marks.old) }
+pub(crate) fn mark_nozzle_rows(sheet: &Sheet, marks: &mut [u8])
+    requires { Fits sheet.now (length marks.old) }
+    ensures { marks.new ≡ totalled mark_plane sheet.now.settings.finishes sheet.now.settings.count (rows_written sheet.now.settings.count (row_of mark_plane (contents_of sheet.now)) (nozzle_rows sheet.now.settings.finishes) marks.old) }
 {
     let layout = layout_of(sheet.settings);
     clear(layout, layout.base_row(), 1, marks);
 }
 
 // Writes the marks of the friction, base and total rows anew. The base row stands after the friction rows.
-pub(crate) fn mark_body(sheet: Sheet, marks: &mut [u8])
-    requires { Fits sheet (length marks.old) }
-    ensures { marks.new ≡ totalled mark_plane sheet.settings.finishes sheet.settings.count (rows_written sheet.settings.count (row_of mark_plane (contents_of sheet)) (body_rows sheet.settings.finishes) marks.old) }
+pub(crate) fn mark_body(sheet: &Sheet, marks: &mut [u8])
+    requires { Fits sheet.now (length marks.old) }
+    ensures { marks.new ≡ totalled mark_plane sheet.now.settings.finishes sheet.now.settings.count (rows_written sheet.now.settings.count (row_of mark_plane (contents_of sheet.now)) (body_rows sheet.now.settings.finishes) marks.old) }
 {
     let layout = layout_of(sheet.settings);
     clear(layout, FRICTION_ROW, layout.finishes + 1, marks);

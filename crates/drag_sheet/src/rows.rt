@@ -116,13 +116,13 @@ fn write_totals(layout: Layout, cells: &mut [f64])
 // Writes the friction row of a finish; `flows` are what `kept_flows` kept.
 #[tactic(auto, using(crate::proofs::Taken::zero_row))]
 fn write_friction(
-    sheet: Sheet,
+    sheet: &Sheet,
     finish: usize,
     flows: &Option<[Result<Flow, AeroError>; COLUMNS]>,
     cells: &mut [f64],
 )
-    requires { Fits sheet (length cells.old) × (finish < sheet.settings.finishes) × KeptFlows sheet flows.now }
-    ensures { cells.new ≡ written (friction_row finish * sheet.settings.count) (row_of cell_plane (contents_of sheet) (friction_row finish)) cells.old }
+    requires { Fits sheet.now (length cells.old) × (finish < sheet.now.settings.finishes) × KeptFlows sheet.now flows.now }
+    ensures { cells.new ≡ written (friction_row finish * sheet.now.settings.count) (row_of cell_plane (contents_of sheet.now) (friction_row finish)) cells.old }
 {
     let mut row = [0.0; COLUMNS];
     let count = sheet.settings.count;
@@ -132,9 +132,9 @@ fn write_friction(
 }
 
 // Writes the friction rows.
-fn write_frictions(sheet: Sheet, cells: &mut [f64])
-    requires { Fits sheet (length cells.old) }
-    ensures { cells.new ≡ rows_written sheet.settings.count (row_of cell_plane (contents_of sheet)) (from (friction_row 0) sheet.settings.finishes) cells.old }
+fn write_frictions(sheet: &Sheet, cells: &mut [f64])
+    requires { Fits sheet.now (length cells.old) }
+    ensures { cells.new ≡ rows_written sheet.now.settings.count (row_of cell_plane (contents_of sheet.now)) (from (friction_row 0) sheet.now.settings.finishes) cells.old }
 {
     let flows = friction::kept_flows(sheet);
     for finish in 0usize..sheet.settings.finishes {
@@ -143,32 +143,32 @@ fn write_frictions(sheet: Sheet, cells: &mut [f64])
 }
 
 // Writes the base row.
-fn write_base(sheet: Sheet, cells: &mut [f64])
-    requires { Fits sheet (length cells.old) }
-    ensures { cells.new ≡ written (base_row sheet.settings.finishes * sheet.settings.count) (row_of cell_plane (contents_of sheet) (base_row sheet.settings.finishes)) cells.old }
+fn write_base(sheet: &Sheet, cells: &mut [f64])
+    requires { Fits sheet.now (length cells.old) }
+    ensures { cells.new ≡ written (base_row sheet.now.settings.finishes * sheet.now.settings.count) (row_of cell_plane (contents_of sheet.now) (base_row sheet.now.settings.finishes)) cells.old }
 {
-    let settings = sheet.settings;
+    let settings = &sheet.settings;
     let count = settings.count;
-    let area = body::base_area(sheet);
-    let layout = layout_of(settings);
+    let area = body::base_area(*sheet);
+    let layout = layout_of(*settings);
     let at = offset(layout, layout.base_row());
     let end = at + count;
     body::fill_base(area, &settings.machs[..count], &mut cells[at..end]);
 }
 
 // Writes the base and total rows anew.
-pub(crate) fn write_nozzle_rows(sheet: Sheet, cells: &mut [f64])
-    requires { Fits sheet (length cells.old) }
-    ensures { cells.new ≡ totalled cell_plane sheet.settings.finishes sheet.settings.count (rows_written sheet.settings.count (row_of cell_plane (contents_of sheet)) (nozzle_rows sheet.settings.finishes) cells.old) }
+pub(crate) fn write_nozzle_rows(sheet: &Sheet, cells: &mut [f64])
+    requires { Fits sheet.now (length cells.old) }
+    ensures { cells.new ≡ totalled cell_plane sheet.now.settings.finishes sheet.now.settings.count (rows_written sheet.now.settings.count (row_of cell_plane (contents_of sheet.now)) (nozzle_rows sheet.now.settings.finishes) cells.old) }
 {
     write_base(sheet, cells);
     write_totals(layout_of(sheet.settings), cells);
 }
 
 // Writes the friction, base and total rows anew.
-pub(crate) fn write_body(sheet: Sheet, cells: &mut [f64])
-    requires { Fits sheet (length cells.old) }
-    ensures { cells.new ≡ totalled cell_plane sheet.settings.finishes sheet.settings.count (rows_written sheet.settings.count (row_of cell_plane (contents_of sheet)) (body_rows sheet.settings.finishes) cells.old) }
+pub(crate) fn write_body(sheet: &Sheet, cells: &mut [f64])
+    requires { Fits sheet.now (length cells.old) }
+    ensures { cells.new ≡ totalled cell_plane sheet.now.settings.finishes sheet.now.settings.count (rows_written sheet.now.settings.count (row_of cell_plane (contents_of sheet.now)) (body_rows sheet.now.settings.finishes) cells.old) }
 {
     write_frictions(sheet, cells);
     write_nozzle_rows(sheet, cells);
@@ -208,8 +208,8 @@ pub(crate) fn build_rows(sheet: Sheet, cells: &mut [f64], marks: &mut [u8]) -> R
     ensures marks { Filled (trial (contents_of sheet)) (build mark_plane (contents_of sheet)) result marks.new }
 {
     part_rows(sheet, cells, marks)?;
-    write_body(sheet, cells);
-    mark_body(sheet, marks);
+    write_body(&sheet, cells);
+    mark_body(&sheet, marks);
     Ok(())
 }
 

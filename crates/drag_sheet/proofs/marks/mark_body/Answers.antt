@@ -8,5 +8,5 @@ use Rattle.drag_sheet.proofs.marks.mark_body.Goals as goal
 
 pub returns : goal.returns
 returns c =
-    let S = c.args.sheet.settings in
-    c.clear.ensures ∙ rw (c.layout_of-layout.ensures.0, c.layout_of-layout.ensures.1) (ap (totalled mark_plane S.finishes S.count) (body_cleared (contents_of c.args.sheet) c.args.marks.now))
+    let S = c.args.sheet.now.settings in
+    c.clear.ensures ∙ rw (c.layout_of-layout.ensures.0, c.layout_of-layout.ensures.1) (ap (totalled mark_plane S.finishes S.count) (body_cleared (contents_of c.args.sheet.now) c.args.marks.now))

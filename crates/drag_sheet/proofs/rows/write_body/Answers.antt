@@ -13,4 +13,4 @@ pub returns : goal.returns
 unfolding body_rows
 returns c =
     c.write_nozzle_rows.ensures
-    ∙ rw (c.write_frictions.ensures, rows_append c.args.sheet.settings.count (row_of cell_plane (contents_of c.args.sheet)) (nozzle_rows c.args.sheet.settings.finishes) (from (friction_row 0) c.args.sheet.settings.finishes) c.args.cells.now)
+    ∙ rw (c.write_frictions.ensures, rows_append c.args.sheet.now.settings.count (row_of cell_plane (contents_of c.args.sheet.now)) (nozzle_rows c.args.sheet.now.settings.finishes) (from (friction_row 0) c.args.sheet.now.settings.finishes) c.args.cells.now)

@@ -10,10 +10,10 @@ use Rattle.drag_sheet.proofs.rows.write_friction.Goals as goal
 use Rattle.drag_sheet.proofs.rows.write_friction.Goals.{After-sum_parts}
 
 -- the sum has a cell for each column
-sum_long : (c : After-sum_parts) → length c.sum_parts.new.sum ≡ c.args.sheet.settings.count
+sum_long : (c : After-sum_parts) → length c.sum_parts.new.sum ≡ c.args.sheet.now.settings.count
 sum_long c = ap length c.sum_parts.ensures ∙ tab_long _ _
 
 pub returns : goal.returns
 returns c =
     c.write_row.ensures
-    ∙ rw (take_at c.sum_parts.new.sum _ c.args.sheet.settings.count (sum_long (goal.at.returns c).After-sum_parts), c.sum_parts.ensures, (placed c.layout_of.ensures c.offset-at.ensures).place, friction_made (contents_of c.args.sheet) c.args.finish c.requires.1)
+    ∙ rw (take_at c.sum_parts.new.sum _ c.args.sheet.now.settings.count (sum_long (goal.at.returns c).After-sum_parts), c.sum_parts.ensures, (placed c.layout_of.ensures c.offset-at.ensures).place, friction_made (contents_of c.args.sheet.now) c.args.finish c.requires.1)

@@ -8,4 +8,4 @@ use Rattle.drag_sheet.proofs.rows.write_nozzle_rows.Goals as goal
 pub returns : goal.returns
 unfolding rows_written
 returns c =
-    c.write_totals.ensures ∙ rw (c.layout_of.ensures.0, c.layout_of.ensures.1) (ap (totalled cell_plane c.args.sheet.settings.finishes c.args.sheet.settings.count) c.write_base.ensures)
+    c.write_totals.ensures ∙ rw (c.layout_of.ensures.0, c.layout_of.ensures.1) (ap (totalled cell_plane c.args.sheet.now.settings.finishes c.args.sheet.now.settings.count) c.write_base.ensures)
