@@ -162,7 +162,7 @@ impl Reader<'_> {
 }
 
 // A part card, and the position after it. Inlined with what it calls, as the settings card below: handed on from answer to answer, a part goes through memory in pieces,
-// and the card takes 1.25 times as long. A function that takes the reading of the card as a closure would serve both cards and be no shorter.
+// and the card takes 1.4 times as long. A function that takes the reading of the card as a closure would serve both cards and be no shorter.
 #[inline(always)]
 #[tactic(auto, unfolding(crate::specs::Cards::part_at))]
 pub fn read_part(s: &[u8], at: usize) -> Result<(Part, usize), AeroError>

@@ -171,7 +171,8 @@ fn sum_kept(sheet: &Sheet, finish: usize, flows: &[Result<Flow, AeroError>], sum
     add_by_place(parts, &common[..count], form, flows, sum);
 }
 
-// The same where no part has a roughness of its own. For speed each column is asked once, and no flow is kept.
+// The same where no part has a roughness of its own. For speed each column is asked once, and no flow is kept. The sheet by value, as in
+// `base_area`: behind a reference the lengths of its arrays are not at hand.
 fn sum_common(sheet: Sheet, finish: usize, sum: &mut [f64])
     requires { SumAsked sheet finish sum.old × (any_own (parts_of sheet.design) ≡ false) }
     ensures { sum.new ≡ friction_row_cells (contents_of sheet) finish }

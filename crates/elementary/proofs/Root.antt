@@ -1,4 +1,4 @@
--- `root_of` is the whole part of the square root, and the loop's step keeps it so.
+-- `root_of` is the whole part of the square root: two digits of the number give one of the root.
 use mathlib.Core.Path.{◌≡◌, refl, sym, ap, ◌∙◌, subst, subst₂}
 use mathlib.Core.Bool.{cond}
 use Prim.Native.Nat.{ℕ, zero, suc, ◌+◌, ◌-◌, ◌*◌, ◌/◌, ◌%◌, ◌^◌, ◌≤◌, ◌<◌}
@@ -91,7 +91,7 @@ module _ (k n root left : ℕ) (h : Rooted k n root left) where
   pub nearest_down : left ≤ root → root ≡ nearest_root k n
   nearest_down l = rw (← h.is, le-ltb (root * root + root) n (omega (arith, h.above)))
 
--- what the code hands on: the root of w × 2 ^ 52 has at most 53 digits, and so has the number nearest to it, or is 2 ^ 53
+-- the root of w × 2 ^ 52 has at most 53 digits, and so has the number nearest to it, or is 2 ^ 53
 pub nearest_short : (w : ℕ) → w < 2 ^ 54 → nearest_root 53 (w * 2 ^ 52) ≤ 2 ^ 53
 nearest_short w h =
     let r = (rooted 53 (w * 2 ^ 52) (omega arith)).1 in

@@ -41,11 +41,9 @@ type Sheets = [(SheetWords, PartWords)];
 
 fn builds(one: &Sheets, four: &Sheets) {
     let (port, original) = black_box((raw::cobalnis_insert_raw as Edit, theirs::insert as Edit));
-    let with_one = measure(
-        one.len(),
-        &mut || build_pass(port, CELLS, one),
-        &mut || build_pass(original, CELLS, one),
-    );
+    let with_one = measure(one.len(), &mut || build_pass(port, CELLS, one), &mut || {
+        build_pass(original, CELLS, one)
+    });
     let with_four = measure(
         four.len(),
         &mut || build_pass(port, ALL_CELLS, four),
