@@ -1,6 +1,6 @@
 // The marks of the rows that have none of their own: friction and base rows are written unmarked, and a total is marked where a part row that is there is.
 ghost use Rattle.std.specs.Prelude.{◌≡◌, ◌+◌, ◌≤◌, length, get_or, replicate};
-ghost use Rattle.sheet_data.specs.Layout.{base_row, friction_row, all_rows, needed};
+ghost use Rattle.sheet_data.specs.Layout.{all_rows, needed};
 ghost use Rattle.sheet_data.specs.Contents.{contents_of, Fits};
 ghost use Rattle.sheet_data.specs.Tables.{tab};
 ghost use Rattle.sheet_data.specs.Rows.{from, rows_written};

@@ -2,7 +2,6 @@
 ghost use Rattle.std.specs.Prelude.{◌≡◌, ◌≤◌, length, get_or};
 ghost use Rattle.std.specs.Float.{nan};
 ghost use Rattle.aero_error.specs.Checks.{up_to};
-ghost use Rattle.sheet_data.specs.Layout.{most_columns};
 ghost use Rattle.sheet_data.specs.Tables.{tab};
 ghost use Rattle.drag_sheet.specs.Formulas.{prepared_of, cell_of, mark_of, marked_cell, value_of, made_test, area_ratio, boattail_drag};
 ghost use Rattle.drag_sheet.specs.Planes.{cell_plane, mark_plane};

@@ -1,21 +1,20 @@
 -- SQRT is the nearest binary64 number to the exact root, for every finite x above zero, subnormal ones included. With r the whole number that `nearest_root` finds for s = w × 2 ^ 52 and u the root's last place, x is s × u², the root is r × u, and
 -- every other binary64 number from 2 ^ 52 × u up is a multiple of u.
-use mathlib.Core.Path.{◌≡◌, refl, sym, ap, ◌∙◌, subst}
+use mathlib.Core.Path.{◌≡◌, sym, ap, ◌∙◌, subst}
 use mathlib.Core.Logic.{inl, inr}
 use mathlib.Core.Bool.{Bool, true, false, cond}
 use Prim.Native.Nat.{ℕ, zero, suc, ◌+◌, ◌-◌, ◌*◌, ◌/◌, ◌%◌, ◌^◌, ◌≤◌, ◌<◌}
-use native.Mathlib.Nat.{mul_assoc, mul_comm, mul_right_comm, one-mul, zero-mul, add-mul, mul-add, mul-mul-mul_comm, mul-pos, mul-le-mul, mul-le-mul_right, mul-le-mul_left, mul-lt-mul_of_pos_right, lt_of_mul-lt-mul_right, le_trans, le_of_eq, le_of_lt, lt_of_lt_of_le, lt_of_le_of_lt, mul-div_cancel, zero-lt-suc, eq-zero-or-pos, not-le_of_lt, lt_of_not-le}
+use native.Mathlib.Nat.{mul_assoc, mul_comm, mul_right_comm, zero-mul, add-mul, mul-add, mul-mul-mul_comm, mul-pos, mul-le-mul, mul-le-mul_right, mul-le-mul_left, mul-lt-mul_of_pos_right, lt_of_mul-lt-mul_right, le_trans, le_of_eq, le_of_lt, lt_of_lt_of_le, lt_of_le_of_lt, mul-div_cancel, zero-lt-suc, eq-zero-or-pos, not-le_of_lt, lt_of_not-le}
 use native.Mathlib.Decide.{dec_le, dec_lt, ℕ_discrete}
 use native.Mathlib.Omega.{arith}
 use lib.IntN.{ℤ}
 use lib.Dec.{T, eqb, lit<}
 use lib.Arith.{lt_of_le-ne}
 use lib.Pow.{pow-add, pow_pos, pow_mono, shl_lt}
-use lib.Ieee.{Float, nan, inf, fin, binary64, up, down, size, fits, minus, of_int}
-use lib.Ieee.Digits.{back, minus_val}
+use lib.Ieee.{Float, nan, inf, fin, binary64, up, down, size, round, fits, minus}
+use lib.Ieee.Digits.{back}
 use lib.Ieee.Fits.{down_pos, mul-fits}
 use lib.Ieee.Exact.{HasValue, round_exact}
-use lib.Ieee.Back.{round_whole}
 use lib.Ieee.Positive.{positive, positive_of_value, mul_at}
 use borrow.Author.Tests.{eq-eqb, ne_eqb}
 use Rattle.elementary.specs.Arithmetic.{◌⊗◌, whole}
@@ -25,6 +24,8 @@ use Rattle.elementary.specs.Root.{root_of, nearest_root}
 use Rattle.elementary.specs.Steps.{SQRT, sqrt_steps}
 use Rattle.elementary.specs.Nearest.{units_of, NearestRoot}
 use Rattle.elementary.proofs.Bits.{no_units, held, in_units, taken_units}
+use Rattle.elementary.proofs.Powers.{raised, power_value}
+use Rattle.elementary.proofs.Ranges.{whole_value}
 use Rattle.elementary.proofs.Root.{Rooted, rooted, nearest_up, nearest_down}
 use Rattle.elementary.proofs.Value.{normal_exact}
 
@@ -48,7 +49,7 @@ near_down : (s r left : ℕ) → 0 < s → left + r * r ≡ s → left ≤ r →
 near_down s r left p e l =
     record { below = omega arith; above = elim (eq-zero-or-pos r) [ inl z ↦ (let q : r * r ≡ 0 = ap (λ (k : ℕ). k * r) z ∙ zero-mul r in omega arith) | inr q ↦ omega arith ] }
 
-pub near : (k s : ℕ) → 0 < s → s < 4 ^ k → Near s (nearest_root k s)
+near : (k s : ℕ) → 0 < s → s < 4 ^ k → Near s (nearest_root k s)
 near k s p h = go (rooted k s h)
   where
     go : (left : ℕ) × Rooted k s (root_of k s) left → Near s (nearest_root k s)
@@ -169,15 +170,18 @@ square_of g d h =
 
 -- ---- the answer in units
 
--- r × 2 ^ j / 2 ^ 589, for an r of 53 digits, is held exactly: it is r × 2 ^ (j + 485) units
+-- r × 2 ^ j / 2 ^ 589, rounded
+pub root_rounds : (r j : ℕ) → 0 < r → r ≤ 2 ^ 53 → whole r ⊗ two^ (minus j 589) ≡ round binary64 false (r * 2 ^ j) (1 * 2 ^ 589)
+root_rounds r j p h =
+    let w = whole_value r h in
+    mul_at binary64 (whole r) (two^ (minus j 589)) r 1 (2 ^ j) (2 ^ 589) (positive_of_value (whole r) r 1 w p) tt (zero-lt-suc 0) (pow_pos 589) w (power_value j 589)
+
+-- for an r of 53 digits it is held exactly: it is r × 2 ^ (j + 485) units
 root_value : (r j : ℕ) → 0 < r → r < 2 ^ 53 → j ≤ 1048 → HasValue (whole r ⊗ two^ (minus j 589)) false (r * 2 ^ j) (1 * 2 ^ 589)
 root_value r j p h l =
-    let w : HasValue (whole r) false r 1 = unfold of_int in round_whole binary64 false r (le_of_lt h) in
-    let t : HasValue (two^ (minus j 589)) false (2 ^ j) (2 ^ 589) = (refl, minus_val 1 j 589 ∙ ap (λ (a : ℕ). a * down (minus j 589)) (one-mul (2 ^ j))) in
     let scaled : r * 2 ^ j * 2 ^ 1074 ≡ r * 2 ^ (j + 485) * (1 * 2 ^ 589) =
-    sym (mul_assoc (r * 2 ^ j) (2 ^ 485) (2 ^ 589)) ∙ ap (λ (a : ℕ). a * 2 ^ 589) (mul_assoc r (2 ^ j) (2 ^ 485) ∙ ap (λ (a : ℕ). r * a) (sym (pow-add 2 j 485))) in
-    subst (λ (x : Float). HasValue x false (r * 2 ^ j) (1 * 2 ^ 589))
-    (sym (mul_at binary64 (whole r) (two^ (minus j 589)) r 1 (2 ^ j) (2 ^ 589) (positive_of_value (whole r) r 1 w p) tt (zero-lt-suc 0) (pow_pos 589) w t))
+    sym (mul_assoc (r * 2 ^ j) (2 ^ 485) (2 ^ 589)) ∙ ap (λ (a : ℕ). a * 2 ^ 589) (raised r j 485) in
+    subst (λ (x : Float). HasValue x false (r * 2 ^ j) (1 * 2 ^ 589)) (sym (root_rounds r j p (le_of_lt h)))
     (round_exact binary64 false (r * 2 ^ j) (1 * 2 ^ 589) r (j + 485) (mul-pos (zero-lt-suc 0) (pow_pos 589)) h (lt_of_lt_of_le (shl_lt 53 (j + 485) h) (pow_mono {i = 53 + (j + 485)} {j = 2098} (omega arith))) scaled)
 
 units_of_value : (y : Float) (a k : ℕ) → T (positive y) → HasValue y false (a * 2 ^ k) (1 * 2 ^ 589) → units_of y ≡ a * 2 ^ (k + 485)
@@ -188,7 +192,7 @@ units_of_value (fin s m e) a k p v =
     (sym (mul_assoc (m * up e) (2 ^ 589) (2 ^ 485))
     ∙ ap (λ (z : ℕ). z * 2 ^ 485) v.1
     ∙ mul_right_comm (a * 2 ^ k) (down e) (2 ^ 485)
-    ∙ ap (λ (z : ℕ). z * down e) (mul_assoc a (2 ^ k) (2 ^ 485) ∙ ap (λ (z : ℕ). a * z) (sym (pow-add 2 k 485))))
+    ∙ ap (λ (z : ℕ). z * down e) (raised a k 485))
     ∙ mul-div_cancel (a * 2 ^ (k + 485)) (down_pos e)
 
 -- ---- all of it together: r × 2 ^ k against any other number z of units, where x is s × 2 ^ k × 2 ^ k in the square's units
@@ -231,6 +235,10 @@ doubled : (b : Bool) (g : ℕ) → 2 ^ 52 ≤ g → g < 2 ^ 53 → (2 ^ 52 ≤ c
 doubled true g a b = (a, omega arith)
 doubled false g a b = (omega arith, omega arith)
 
+-- the root of a w of 53 or 54 digits has 53
+pub root_full : (w : ℕ) → 2 ^ 52 ≤ w → w < 2 ^ 54 → 2 ^ 52 ≤ nearest_root 53 (w * 2 ^ 52)
+root_full w a b = at_least (w * 2 ^ 52) (nearest_root 53 (w * 2 ^ 52)) (2 ^ 52) (near 53 (w * 2 ^ 52) (omega arith) (omega arith)) (omega arith)
+
 -- ---- the theorem
 
 module _ (m : ℕ) (e : ℤ) (h : T (fits binary64 (fin false (suc m) e))) where
@@ -267,7 +275,7 @@ module _ (m : ℕ) (e : ℤ) (h : T (fits binary64 (fin false (suc m) e))) where
   r = nearest_root 53 (w * 2 ^ 52)
 
   pub r_full : 2 ^ 52 ≤ r
-  r_full = at_least (w * 2 ^ 52) r (2 ^ 52) r_near (omega (arith, w_range))
+  r_full = root_full w w_range.0 (omega (arith, w_range))
 
   r_narrow : r < 2 ^ 53
   r_narrow = less (w * 2 ^ 52) r (2 ^ 53) r_near (lit< tt) (omega (arith, w_range))

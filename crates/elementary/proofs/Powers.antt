@@ -1,16 +1,27 @@
--- Powers of two as floats: their bits, and the difference of two exponents.
-use mathlib.Core.Path.{◌≡◌}
+-- Powers of two as numbers and as floats: their product, their value, their bits, and the difference of two exponents.
+use mathlib.Core.Path.{◌≡◌, refl, sym, ap, ◌∙◌}
 use mathlib.Core.Bool.{false, not}
 use Prim.Native.Nat.{ℕ, zero, suc, ◌+◌, ◌-◌, ◌*◌, ◌/◌, ◌%◌, ◌^◌, ◌≤◌}
-use native.Mathlib.Nat.{not-suc-le-zero}
+use native.Mathlib.Nat.{not-suc-le-zero, mul_assoc, one-mul}
 use native.Mathlib.Decide.{dec_le}
 use native.Mathlib.Omega.{arith}
 use lib.Count.{count_trailing_zeros}
 use lib.Dec.{T}
-use lib.Ieee.{binary64, minus, of_bits, of_fields, odd, nan_bits}
+use lib.Pow.{pow-add}
+use lib.Ieee.{binary64, down, minus, of_bits, of_fields, odd, nan_bits}
+use lib.Ieee.Digits.{minus_val}
+use lib.Ieee.Exact.{HasValue}
 use lib.Ieee.Bits.{nan_bits_above}
 use borrow.Author.Tests.{le-leb, lt-leb, le-ltb, ne_eqb}
 use Rattle.elementary.specs.Split.{two^}
+
+-- ---- powers of two
+
+pub raised : (r a b : ℕ) → r * 2 ^ a * 2 ^ b ≡ r * 2 ^ (a + b)
+raised r a b = mul_assoc r (2 ^ a) (2 ^ b) ∙ ap (λ (i : ℕ). r * i) (sym (pow-add 2 a b))
+
+pub power_value : (a b : ℕ) → HasValue (two^ (minus a b)) false (2 ^ a) (2 ^ b)
+power_value a b = (refl, minus_val 1 a b ∙ ap (λ (i : ℕ). i * down (minus a b)) (one-mul (2 ^ a)))
 
 -- ---- a - b, both raised by d
 pub minus_shift : (a b d : ℕ) → minus (a + d) (b + d) ≡ minus a b

@@ -25,7 +25,7 @@ at_start = record { is = refl; above = refl; near = omega arith; short = omega a
 double : (r : ℕ) → 2 * r * (2 * r) ≡ 4 * (r * r)
 double r = mul-mul-mul_comm 2 r 2 r
 
-double_one : (r : ℕ) → (2 * r + 1) * (2 * r + 1) ≡ 4 * (r * r) + (4 * r + 1)
+pub double_one : (r : ℕ) → (2 * r + 1) * (2 * r + 1) ≡ 4 * (r * r) + (4 * r + 1)
 double_one r =
     let a : (2 * r + 1) * (2 * r + 1) ≡ 2 * r * (2 * r + 1) + 1 * (2 * r + 1) = add-mul (2 * r) 1 (2 * r + 1) in
     let b : 2 * r * (2 * r + 1) ≡ 2 * r * (2 * r) + 2 * r * 1 = mul-add (2 * r) (2 * r) 1 in

@@ -4,7 +4,7 @@ use mathlib.Core.Path.{◌≡◌, refl, sym, ap, ◌∙◌, subst}
 use mathlib.Core.Logic.{inl, inr}
 use mathlib.Core.Bool.{Bool, true, false, cond}
 use Prim.Native.Nat.{ℕ, zero, suc, ◌+◌, ◌-◌, ◌*◌, ◌/◌, ◌^◌, ◌≤◌, ◌<◌}
-use native.Mathlib.Nat.{mul_assoc, mul_comm, mul_right_comm, mul-mul-mul_comm, mul-add, add-mul, mul-pos, mul-le-mul, mul-le-mul_left, mul-le-mul_right, mul-lt-mul_of_pos_right, le_of_mul-le-mul_right, le_trans, le_of_eq, le_of_lt, lt_of_lt_of_le, lt_of_le_of_lt, lt_of_not-le, not-le_of_lt, mul-div_cancel, eq-zero-or-pos, zero-mul, le-div_iff_mul-le, div-lt_iff_lt-mul}
+use native.Mathlib.Nat.{mul_assoc, mul_comm, mul_right_comm, mul-mul-mul_comm, add-mul, mul-pos, mul-le-mul, mul-le-mul_left, mul-le-mul_right, mul-lt-mul_of_pos_right, le_of_mul-le-mul_right, le_trans, le_of_eq, le_of_lt, lt_of_lt_of_le, lt_of_le_of_lt, lt_of_not-le, not-le_of_lt, mul-div_cancel, eq-zero-or-pos, zero-mul, le-div_iff_mul-le, div-lt_iff_lt-mul}
 use native.Mathlib.Decide.{dec_lt}
 use native.Mathlib.Omega.{arith}
 use lib.IntN.{ℤ}
@@ -24,7 +24,7 @@ use Rattle.elementary.specs.Steps.{SQRT, sqrt_steps}
 use Rattle.elementary.proofs.Bits.{Held, held, in_units, size_is, units_are}
 use Rattle.elementary.proofs.Nearest.{Near, near_is, square_suc, taken, w_range, square, r_full, y_above, y_fits, y_units}
 use Rattle.elementary.proofs.Same.{same_positive}
-use Rattle.elementary.proofs.Root.{nearest_short}
+use Rattle.elementary.proofs.Root.{double_one, nearest_short}
 use Rattle.elementary.proofs.Rounding.{closest_half}
 
 -- ---- twice a root
@@ -81,13 +81,6 @@ module _ (s h q : ℕ) (some : 0 < s) (H : 0 < h) (z : Twice (s * (2 * h * (2 * 
   cancel : (a b : ℕ) → a * (h * h) ≤ b * (h * h) → a ≤ b
   cancel a b l = le_of_mul-le-mul_right l (mul-pos H H)
 
-  square_odd : (2 * c + 1) * (2 * c + 1) ≡ 4 * (c * c) + 4 * c + 1
-  square_odd =
-      let a : (2 * c + 1) * (2 * c + 1) ≡ 2 * c * (2 * c + 1) + 1 * (2 * c + 1) = add-mul (2 * c) 1 (2 * c + 1) in
-      let b : 2 * c * (2 * c + 1) ≡ 2 * c * (2 * c) + 2 * c * 1 = mul-add (2 * c) (2 * c) 1 in
-      let d : 2 * c * (2 * c) ≡ 4 * (c * c) = mul-mul-mul_comm 2 c 2 c in
-      omega arith
-
   -- c times the divisor, and twice c + 1/2 of it
   whole_part_of : c * (2 * (2 * h)) ≡ 4 * (c * h)
   whole_part_of = let a : 2 * (2 * h) ≡ 4 * h = omega arith in ap (λ (k : ℕ). c * k) a ∙ sym (mul_assoc c 4 h) ∙ ap (λ (k : ℕ). k * h) (mul_comm c 4) ∙ mul_assoc 4 c h
@@ -116,7 +109,7 @@ module _ (s h q : ℕ) (some : 0 < s) (H : 0 < h) (z : Twice (s * (2 * h * (2 * 
   closest_below : s ≤ c * c + c
   closest_below =
       let l : 4 * s ≤ (2 * c + 1) * (2 * c + 1) = cancel (4 * s) ((2 * c + 1) * (2 * c + 1)) (rw (← four, ← mul-mul-mul_comm (2 * c + 1) h (2 * c + 1) h) at_most) in
-      omega (arith, square_odd)
+      omega (arith, double_one c)
 
   closest_above : c * c < s + c
   closest_above =
