@@ -73,12 +73,13 @@ bounds burnout s count e = tt
 -- what a passed call's tests have shown
 pub record Facts (call : Call) (sheet : Sheet) (cells : ℕ) : Type 0 where
   pub fits : Fits sheet cells
+  pub arguments : arguments_test call sheet.settings sheet.design.count ≡ Ok tt
   pub within : Bounds call sheet.settings sheet.design.count
 
 pub call_facts : (call : Call) (sheet : Sheet) (cells : ℕ) → call_test call sheet cells ≡ Ok tt → Facts call sheet cells
 call_facts call sheet cells e =
     let a = both_passed (sheet_test (contents_of sheet) cells sheet.design.count) _ e in
-    record { fits = sheet_fits sheet cells a.first; within = bounds call sheet.settings sheet.design.count a.second }
+    record { fits = sheet_fits sheet cells a.first; arguments = a.second; within = bounds call sheet.settings sheet.design.count a.second }
 
 -- no call changes how many finishes and columns there are
 pub record SameLayout (c left : Contents) : Type 0 where

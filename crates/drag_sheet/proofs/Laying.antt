@@ -19,7 +19,7 @@ use Rattle.sheet_data.specs.declared.Part.{Part}
 use Rattle.sheet_data.specs.Layout.{RowPlace, most_parts, friction_row, base_row, total_row, all_rows, needed}
 use Rattle.sheet_data.specs.Contents.{Contents, part_at, fore_at}
 use Rattle.sheet_data.specs.Rows.{from, Unnamed, Below, row_at, written, rows_written}
-use Rattle.sheet_data.specs.RowLaws.{room, put_row, rows_append, RowsDone, rows_none, rows_next, rows_same, after_named, before_named, from_below, below_append, unnamed_append, written_long, cell_set, wrote}
+use Rattle.sheet_data.specs.RowLaws.{room, put_row, rows_append, RowsDone, rows_none, rows_next, rows_from_same, after_named, before_named, from_below, below_append, unnamed_append, written_long, cell_set, wrote}
 use Rattle.drag_sheet.specs.Formulas.{prepared_of}
 use Rattle.drag_sheet.specs.Planes.{Plane}
 use Rattle.drag_sheet.specs.Build.{prepared_at, row_test_from, row_from, row_test, trial, row_of, build}
@@ -82,7 +82,7 @@ module _ {A : Type 0} (P : Plane A) (c : Contents) {places : ℕ} {cells₀ cell
       filled_passed (sym (same_trial 0·0 c) ∙ sym (up_end _ (omega (arith, l.rows.turns)) (omega arith) l.passed))
       (l.rows.done
       ∙ ap (λ (k : ℕ). rows_written c.settings.count (row_of P (with_nozzle 0·0 c)) (from 0 k) cells₀) (sym e)
-      ∙ rows_same c.settings.count _ _ 0 places _ (λ r a b. above_base 0·0 c P r (omega arith)))
+      ∙ rows_from_same c.settings.count _ _ 0 places _ (λ r a b. above_base 0·0 c P r (omega arith)))
 
 -- ---- the rows of the whole body
 

@@ -11,7 +11,7 @@ use Rattle.sheet_data.specs.Layout.{most_parts, friction_row, base_row}
 use Rattle.sheet_data.specs.Contents.{Contents}
 use Rattle.sheet_data.specs.Tables.{tab, tab_long, tab_at, tab_same, tab_constant}
 use Rattle.sheet_data.specs.Rows.{from, row_at, rows_written}
-use Rattle.sheet_data.specs.RowLaws.{rows_same}
+use Rattle.sheet_data.specs.RowLaws.{rows_from_same}
 use Rattle.drag_sheet.specs.Formulas.{any_to}
 use Rattle.drag_sheet.specs.Planes.{mark_plane}
 use Rattle.drag_sheet.specs.Body.{any_more}
@@ -55,7 +55,7 @@ module _ (c : Contents) where
 
   none_written : (first n : ℕ) (xs : List ℕ) → friction_row 0 ≤ first → first + n ≤ base_row c.settings.finishes + 1
       → rows_written c.settings.count (λ r. replicate c.settings.count 0) (from first n) xs ≡ rows_written c.settings.count (row_of mark_plane c) (from first n) xs
-  none_written first n xs a b = rows_same c.settings.count _ _ first n xs (λ r u v. no_mark r (omega arith) (omega arith))
+  none_written first n xs a b = rows_from_same c.settings.count _ _ first n xs (λ r u v. no_mark r (omega arith) (omega arith))
 
   pub nozzle_cleared : (xs : List ℕ) → rows_written c.settings.count (λ r. replicate c.settings.count 0) (from (base_row c.settings.finishes) 1) xs ≡ rows_written c.settings.count (row_of mark_plane c) (nozzle_rows c.settings.finishes) xs
   nozzle_cleared xs = none_written (base_row F) 1 xs (omega arith) (omega arith) ∙ (let e : base_row F + 0 ≡ base_row F = omega arith in rw e)

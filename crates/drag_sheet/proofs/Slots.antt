@@ -1,8 +1,8 @@
 -- The slots of a design as insert and remove leave them: some parts copied one slot up or down.
-use Rattle.std.specs.Prelude.{◌≡◌, List, [], ◌∷◌, ◌++◌, ℕ, ◌+◌, ◌-◌, ◌≤◌, ◌<◌, length, take, drop, set}
-use Rattle.std.proofs.Common.{sym, ap, ◌∙◌, append_assoc, add-one, arith, length-take-le, length-append, length-drop}
+use Rattle.std.specs.Prelude.{◌≡◌, List, [], ◌∷◌, ◌++◌, ℕ, suc, ◌+◌, ◌-◌, ◌≤◌, ◌<◌, length, get_or, take, drop, set}
+use Rattle.std.proofs.Common.{sym, ap, ◌∙◌, append_assoc, add-one, arith, length-take-le, length-append, length-drop, take-append-drop}
 use Rattle.std.proofs.lemmas.List.{drop-take}
-use lib.Seq.{set_split, take_at, take-take, drop_at, drop-drop}
+use lib.Seq.{set_split, take_at, take-add, take-take, drop_at, drop-drop, get_or-append-add, get_or-drop}
 use Rattle.sheet_data.specs.declared.Part.{Part}
 use Rattle.drag_sheet.specs.Calls.{insert_at, remove_at}
 
@@ -13,6 +13,40 @@ inserted_long ps place p h = rw (length-append (take place ps) (p ∷ drop place
 
 pub removed_long : (ps : List Part) (place : ℕ) → place < length ps → length (remove_at place ps) + 1 ≡ length ps
 removed_long ps place h = rw (length-append (take place ps) (drop (place + 1) ps), length-take-le place ps (omega arith), length-drop (place + 1) ps) (omega arith)
+
+-- ---- which part stands where
+
+-- A part put in: before its place the parts stay, at it stands the new one, and from there on each slot has the part that stood one before.
+module _ (ps : List Part) (place : ℕ) (p : Part) (h : place ≤ length ps) where
+  front_long : length (take place ps) ≡ place
+  front_long = length-take-le place ps h
+
+  pub inserted_at : (k : ℕ) (d : Part) → place ≤ k → get_or (insert_at place p ps) (k + 1) d ≡ get_or ps k d
+  inserted_at k d l =
+      let e : k + 1 ≡ length (take place ps) + suc (k - place) = omega (arith, front_long) in
+      let f : place + (k - place) ≡ k = omega arith in
+      rw (e, get_or-append-add (take place ps) (p ∷ drop place ps) (suc (k - place)) d, get_or-drop place ps (k - place) d, f)
+
+  pub inserted_first : (slots : List Part) → length ps < length slots → take (length ps) slots ≡ ps
+      → set slots place p ≡ take (place + 1) (insert_at place p ps) ++ drop (place + 1) slots
+  inserted_first slots l e =
+      let front : take place slots ≡ take place ps = sym (take-take place (length ps) slots h) ∙ ap (take place) e in
+      set_split slots place p (omega arith)
+      ∙ rw (take-add place 1 (insert_at place p ps), take_at (take place ps) (p ∷ drop place ps) place front_long, drop_at (take place ps) (p ∷ drop place ps) place front_long, add-one place, front, append_assoc)
+
+-- A part taken out: before its place the parts stay, and from there on each slot has the part that stood one after.
+module _ (ps : List Part) (place : ℕ) (h : place < length ps) where
+  pub removed_at : (k : ℕ) (d : Part) → place ≤ k → get_or (remove_at place ps) k d ≡ get_or ps (k + 1) d
+  removed_at k d l =
+      let w : length (take place ps) ≡ place = length-take-le place ps (omega arith) in
+      let e : k ≡ length (take place ps) + (k - place) = omega arith in
+      let f : place + 1 + (k - place) ≡ k + 1 = omega arith in
+      ap (λ j. get_or (remove_at place ps) j d) e ∙ rw (get_or-append-add (take place ps) (drop (place + 1) ps) (k - place) d, get_or-drop (place + 1) ps (k - place) d, f)
+
+  pub removed_first : (slots : List Part) → take (length ps) slots ≡ ps → slots ≡ take place (remove_at place ps) ++ drop place slots
+  removed_first slots e =
+      let front : take place slots ≡ take place ps = sym (take-take place (length ps) slots (omega arith)) ∙ ap (take place) e in
+      sym (rw (take_at (take place ps) (drop (place + 1) ps) place (length-take-le place ps (omega arith)), ← front) (take-append-drop place slots))
 
 -- ---- the slots
 

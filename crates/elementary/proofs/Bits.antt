@@ -1,5 +1,5 @@
 -- `split_of` speaks of a float's value, and the code of its 64 bits, class by class: both take the float apart alike (`split_class_lem`).
-use mathlib.Core.Path.{◌≡◌, refl, sym, ap, ◌∙◌, subst}
+use mathlib.Core.Path.{◌≡◌, refl, sym, ap, ◌∙◌, subst, subst₂}
 use mathlib.Core.Bool.{Bool, false, cond, ◌&&◌}
 use Prim.Native.Nat.{ℕ, zero, suc, ◌+◌, ◌-◌, ◌*◌, ◌/◌, ◌%◌, ◌^◌, ◌≤◌, ◌<◌}
 use native.Mathlib.Nat.{mul_assoc, mul_comm, mul-one, zero-mul, zero-div, mul-div_cancel, div-lt_iff_lt-mul, le-div_iff_mul-le, lt_of_lt_of_le, lt_of_not-le, not-le_of_lt, le_of_suc-le-suc, lt_irrefl, le_antisymm, mul_right_comm, le_of_eq, mul-le-mul_right, mul-lt-mul_of_pos_right, lt_of_mul-lt-mul_right, mul-pos, zero-lt-suc}
@@ -17,7 +17,9 @@ use lib.Ieee.Exact.{HasValue}
 use Rattle.elementary.specs.declared.class.FloatClass.{FloatClass}
 use Rattle.elementary.specs.declared.class.FloatClass.TheVariants.{Zero, Subnormal, Normal, Infinity, NaN}
 use Rattle.elementary.specs.Classes.{sign_bit, exponent_field, significand_field, InClass, Stands, split_class}
-use Rattle.elementary.specs.Figures.{Taken}
+use Rattle.elementary.specs.declared.split.Parts.{Parts}
+use Rattle.elementary.specs.declared.split.Parts.TheVariants.{Finite}
+use Rattle.elementary.specs.Figures.{Figures, Taken}
 use Rattle.elementary.specs.Split.{units, normalised, finite_parts, split_of}
 use Rattle.elementary.specs.Nearest.{units_of}
 use Rattle.elementary.proofs.Classes.{field_narrow, stands, no_zero}
@@ -189,3 +191,18 @@ split_class_lem x h c i = go c i (subst (Stands c b) (of_bits-to_bits binary64 x
     go Normal i v = normal_split x (sign_bit b) (exponent_field b) (significand_field b) v i.0 (field_narrow b)
     go Infinity i v = ap split_of v ∙ unfold split_of in refl
     go NaN i v = ap split_of v ∙ unfold split_of in refl
+
+-- the figures of a finite number other than zero
+abbrev figures_of : Parts → Figures
+figures_of (Finite s m) = m
+figures_of _ = record { significand = 0; digits = 0 }
+
+-- what is known of them
+pub taken : (x : Float) {s : Bool} {g d : ℕ} → T (fits binary64 x) → split_of x ≡ finite_parts s g d → Taken g d
+unfolding split_of
+taken nan h e = let z : ◌≡◌ {A = ℕ} 0 1 = cc in absurd (omega arith)
+taken (inf s) h e = let z : ◌≡◌ {A = ℕ} 0 1 = cc in absurd (omega arith)
+taken (fin s zero k) h e = let z : ◌≡◌ {A = ℕ} 0 1 = cc in absurd (omega arith)
+taken (fin s (suc m) k) h e =
+    let u = in_units m k (held s m k h) in
+    subst₂ Taken (ap (λ p. (figures_of p).significand) e) (ap (λ p. (figures_of p).digits) e) (taken_units (units (suc m) k) u.some u.few)

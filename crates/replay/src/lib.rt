@@ -80,12 +80,13 @@ pub fn tag_of(line: &[u8]) -> u8
     byte_at(line, 0)
 }
 
-// Whether the whole line can be read. By `&`, so that the proof goes by no cases.
+// Whether the whole line can be read. By `&`, so that the proof goes by no cases. All words are read, also after one that can't be: so the compiler reads none
+// a second time for whoever asks for it by `word_at`.
 pub fn is_line(line: &[u8]) -> bool
     ensures { result ≡ is_line line.now }
 {
     (line.len() == LINE_BYTES)
-        & (0..WORDS).all(|which| field_at(line, which).is_some())
+        & (0..WORDS).fold(true, |read, which| read & field_at(line, which).is_some())
         & (byte_at(line, LINE_FEED_AT) == b'\n')
 }
 

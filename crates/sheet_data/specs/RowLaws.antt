@@ -142,11 +142,16 @@ module _ {A : Type 0} where
   rows_append C f [] ns xs = refl
   rows_append C f (m ∷ ms) ns xs = ap (written (m * C) (f m)) (rows_append C f ms ns xs)
 
-  -- rows from `at` on that are alike
-  pub rows_same : (C : ℕ) (f g : ℕ → List A) (at n : ℕ) (xs : List A) → ((r : ℕ) → at ≤ r → r < at + n → f r ≡ g r) → rows_written C f (from at n) xs ≡ rows_written C g (from at n) xs
+  pub rows_same : (C : ℕ) (f g : ℕ → List A) (named : List ℕ) (n : ℕ) (xs : List A) → Below n named → ((r : ℕ) → r < n → f r ≡ g r) → rows_written C f named xs ≡ rows_written C g named xs
   unfolding rows_written
-  rows_same C f g at zero xs h = refl
-  rows_same C f g at (suc n) xs h = rw (h (at + n) (omega arith) (omega arith), rows_same C f g at n xs (λ r a b. h r a (omega arith)))
+  rows_same C f g [] n xs b h = refl
+  rows_same C f g (r ∷ rs) n xs b h = rw (h r b.0, rows_same C f g rs n xs b.1 h)
+
+  -- rows from `at` on that are alike
+  pub rows_from_same : (C : ℕ) (f g : ℕ → List A) (at n : ℕ) (xs : List A) → ((r : ℕ) → at ≤ r → r < at + n → f r ≡ g r) → rows_written C f (from at n) xs ≡ rows_written C g (from at n) xs
+  unfolding rows_written
+  rows_from_same C f g at zero xs h = refl
+  rows_from_same C f g at (suc n) xs h = rw (h (at + n) (omega arith) (omega arith), rows_from_same C f g at n xs (λ r a b. h r a (omega arith)))
 
   -- one row more of those from `at` on, as a loop writes them
   pub rows_more : (C : ℕ) (f : ℕ → List A) (at j : ℕ) (xs : List A) → rows_written C f (from at (j + 1)) xs ≡ written ((at + j) * C) (f (at + j)) (rows_written C f (from at j) xs)

@@ -42,7 +42,8 @@ impl Text<'_> {
         self.numbers(row, marks);
     }
 
-    // The lines of so many rows from a row on, numbered from 0 on.
+    // The lines of so many rows from a row on, numbered from 0 on. Inlined, so that each name's length is known: else the library asks its host for `memmove`.
+    #[inline(always)]
     fn rows(&mut self, name: &[u8], numbered: bool, first: usize, count: usize, planes: Planes)
         requires { (first + count ≤ all_rows planes.layout.finishes) × Room (numbered_text name.now * count) self.old }
         ensures { Prints (row_lines name.now numbered first count 0 planes.entry.layout.columns (lent planes.entry.cells.now planes.entry.marks.now)) self.old self.new }

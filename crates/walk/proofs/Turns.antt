@@ -3,7 +3,7 @@ use Rattle.std.specs.Prelude.{Option, Some}
 use Rattle.std.proofs.Common.{◌≡◌, true, false, List, [], ◌∷◌, ℕ, suc, ◌+◌, ◌-◌, ◌≤◌, ◌<◌, length, get_or, take, drop, set, add-one, drop-cons, arith}
 use Rattle.std.proofs.lemmas.List.{take_all, drop_all}
 use Rattle.std.proofs.lemmas.List.Edits.{sets}
-use native.Mathlib.Nat.{add-zero}
+use native.Mathlib.Nat.{add-zero, zero-add}
 use lib.Ieee.{Float, nan}
 use Rattle.stoney.specs.Points.{Point}
 use Rattle.walk.specs.Walk.{Stand, Went, reached, leg, went, once_more, read_at, walk_from}
@@ -11,6 +11,9 @@ use Rattle.walk.specs.Walker.{after}
 
 after_more : (n : ℕ) (w : Went) → after n (once_more w) ≡ after (n + 1) w
 after_more n w = let e : n + suc w.compared ≡ n + 1 + w.compared = omega arith in rw e
+
+pub after_none : (w : Went) → w ≡ after 0 w
+after_none w = rw (zero-add w.compared)
 
 -- ---- a query that meets these points, after n comparisons
 
