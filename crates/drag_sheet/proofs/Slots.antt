@@ -18,21 +18,20 @@ removed_long ps place h = rw (length-append (take place ps) (drop (place + 1) ps
 
 -- A part put in: before its place the parts stay, at it stands the new one, and from there on each slot has the part that stood one before.
 module _ (ps : List Part) (place : ℕ) (p : Part) (h : place ≤ length ps) where
-  front_long : length (take place ps) ≡ place
-  front_long = length-take-le place ps h
-
   pub inserted_at : (k : ℕ) (d : Part) → place ≤ k → get_or (insert_at place p ps) (k + 1) d ≡ get_or ps k d
   inserted_at k d l =
-      let e : k + 1 ≡ length (take place ps) + suc (k - place) = omega (arith, front_long) in
+      let w : length (take place ps) ≡ place = length-take-le place ps h in
+      let e : k + 1 ≡ length (take place ps) + suc (k - place) = omega arith in
       let f : place + (k - place) ≡ k = omega arith in
       rw (e, get_or-append-add (take place ps) (p ∷ drop place ps) (suc (k - place)) d, get_or-drop place ps (k - place) d, f)
 
   pub inserted_first : (slots : List Part) → length ps < length slots → take (length ps) slots ≡ ps
       → set slots place p ≡ take (place + 1) (insert_at place p ps) ++ drop (place + 1) slots
   inserted_first slots l e =
+      let w : length (take place ps) ≡ place = length-take-le place ps h in
       let front : take place slots ≡ take place ps = sym (take-take place (length ps) slots h) ∙ ap (take place) e in
       set_split slots place p (omega arith)
-      ∙ rw (take-add place 1 (insert_at place p ps), take_at (take place ps) (p ∷ drop place ps) place front_long, drop_at (take place ps) (p ∷ drop place ps) place front_long, add-one place, front, append_assoc)
+      ∙ rw (take-add place 1 (insert_at place p ps), take_at (take place ps) (p ∷ drop place ps) place w, drop_at (take place ps) (p ∷ drop place ps) place w, add-one place, front, append_assoc)
 
 -- A part taken out: before its place the parts stay, and from there on each slot has the part that stood one after.
 module _ (ps : List Part) (place : ℕ) (h : place < length ps) where
